@@ -1,0 +1,3 @@
+pub mod Order
+pub mod Rust
+pub mod Theorems

@@ -1,0 +1,99 @@
+// One region of the flash: what its bytes say, and what is laid into them to add a record or to make one dead.
+mod pen;
+mod walk;
+
+pub use pen::check_sum_fits;
+pub use pen::clear_live;
+pub use pen::lay_record;
+pub use pen::lay_zeros;
+pub use walk::find;
+pub use walk::look;
+ghost use mathlib.Core.Path.{_≡_};
+ghost use Rattle.region.specs.Walk.{live, isWanted, eventOf};
+
+// A record as its header says it: the place of its first byte in the region, its whole length, its flags and its key.
+pub struct Record {
+    pub at: usize,
+    pub len: usize,
+    pub flags: u8,
+    pub key: u64,
+}
+
+impl Record {
+    pub const VERSION: u8 = 1;
+    // The flags of a live record; its top bit alone makes it live.
+    pub const FLAGS_VALID: u8 = 8;
+    // Flags and the length's high bits; its low eight bits follow.
+    pub const LEN_OFFSET: usize = 1;
+
+    pub const KEY_OFFSET: usize = 3;
+
+    pub const HEADER_LENGTH: usize = 11;
+
+    pub const CHECK_SUM_LEN: usize = 4;
+    // The length of a record whose value is empty.
+    pub const LEAST: usize = 15;
+    // The longest that is written: 4,095 is left out, as the crate's header leaves it out.
+    pub const LARGEST: usize = 4094;
+
+    // It is live if the top bit of byte 1 is set; the other three flag bits are not looked at.
+    pub fn is_live(self) -> bool
+        ensures { λ r. ⌜ r ≡ live self ⌝ }
+    {
+        Record::FLAGS_VALID <= self.flags
+    }
+}
+
+// Why a place is bad: steps 3 and 4 of a walk.
+pub enum Fault {
+    UnsupportedVersion,
+    CorruptData,
+}
+
+// How and where the records of a region stop: the end, or a bad place.
+pub enum Stop {
+    End(usize),
+    Bad(Fault, usize),
+}
+
+impl Stop {
+    // A walk that stops before it met what it looks for.
+    pub fn event(self) -> Event
+        ensures { λ r. ⌜ r ≡ eventOf self ⌝ }
+    {
+        match self {
+            Stop::End(at) => Event::End(at),
+            Stop::Bad(fault, at) => Event::Bad(fault, at),
+        }
+    }
+}
+
+// What stands at one place of a region.
+pub enum Step {
+    Found(Record),
+    Stop(Stop),
+}
+
+// What is looked for: a live record of the key, or any live record.
+pub enum Want {
+    Key(u64),
+    Any,
+}
+
+impl Want {
+    pub fn by(self, rec: Record) -> bool
+        ensures { λ r. ⌜ r ≡ isWanted self rec ⌝ }
+    {
+        match self {
+            Want::Key(key) => rec.is_live() && rec.key == key,
+            Want::Any => rec.is_live(),
+        }
+    }
+}
+
+// What decides a walk: a live record that is looked for, a bad place, or the end.
+pub enum Event {
+    Live(Record),
+    Bad(Fault, usize),
+    End(usize),
+}
