@@ -1,13 +1,14 @@
--- A write, a byte at a time; a blank part, a byte at a time; and where a write leaves the new bytes as they are.
+-- A write, a byte at a time; a blank part, a byte at a time; where a write leaves the new bytes as they are; and that AND adds no bit.
 -- Assumes nothing.
-use Prim.Native.Nat.{ℕ, zero, suc, _+_, _*_, _/_, _%_, _^_, _≤_, _<_}
+use Prim.Native.Nat.{ℕ, zero, suc, _+_, _*_, _/_, _%_, _^_, _≤_, _<_, min}
 use native.Mathlib.Nat.{add-suc, add-zero}
 use native.Mathlib.Numerals.{add-one}
 use native.Mathlib.Omega.{arith}
 use mathlib.Core.Path.{_≡_, refl, sym, _∙_, ap}
 use mathlib.Core.Bool.{Bool, true, false, _&&_}
 use mathlib.Core.List.{List, [], _∷_, _++_}
-use lib.Bits.{bitAnd, and-comm, and-mask, and-block, and-zero-r, and-self}
+use lib.Arith.{bin-ind}
+use lib.Bits.{bitAnd, and-step, and-comm, and-mask, and-block, and-zero-r, and-self}
 use lib.Dec.{eqb}
 use lib.ListN.{length, getD, take, drop, set, length-set, drop-of-length-le}
 use lib.Seq.{sets, drop-cons, getD-set-other}
@@ -68,6 +69,35 @@ and-clear b =
     let k = and-block 7 (b / 128) 0 (b % 128) (b % 128) (omega arith) (omega arith) in
     let m : bitAnd (b / 128) 0 * 2 ^ 7 + bitAnd (b % 128) (b % 128) ≡ b % 128 = rw (and-zero-r, and-self) z in
     (λ i. bitAnd (sym e i) (sym z i)) ∙ k ∙ m
+
+-- `bitAnd x y ≡ x`: every bit of x is one of y. AND is associative, by induction on the digits, so this goes on from one to the next.
+
+and-three : (a b c : ℕ) → bitAnd (bitAnd a b) c ≡ bitAnd (bitAnd (a / 2) (b / 2)) (c / 2) * 2 + min (min (a % 2) (b % 2)) (c % 2)
+and-three a b c =
+    let half : bitAnd a b / 2 ≡ bitAnd (a / 2) (b / 2) = omega (arith, and-step a b) in
+    let low : bitAnd a b % 2 ≡ min (a % 2) (b % 2) = omega (arith, and-step a b) in
+    and-step (bitAnd a b) c ∙ (λ i. bitAnd (half i) (c / 2) * 2 + min (low i) (c % 2))
+
+pub and-assoc : (a b c : ℕ) → bitAnd (bitAnd a b) c ≡ bitAnd a (bitAnd b c)
+and-assoc =
+    bin-ind (λ (a : ℕ). (b c : ℕ) → bitAnd (bitAnd a b) c ≡ bitAnd a (bitAnd b c)) (λ b c. refl)
+    (λ a ih b c.
+    let m : min (min (a % 2) (b % 2)) (c % 2) ≡ min (min (b % 2) (c % 2)) (a % 2) = omega arith in
+    let i : bitAnd (bitAnd (a / 2) (b / 2)) (c / 2) ≡ bitAnd (bitAnd (b / 2) (c / 2)) (a / 2) = ih (b / 2) (c / 2) ∙ and-comm (a / 2) (bitAnd (b / 2) (c / 2)) in
+    and-three a b c ∙ (λ j. i j * 2 + m j) ∙ sym (and-three b c a) ∙ and-comm (bitAnd b c) a)
+
+pub and-under : (a b : ℕ) → bitAnd (bitAnd a b) a ≡ bitAnd a b
+and-under a b = and-comm (bitAnd a b) a ∙ sym (and-assoc a a b) ∙ ap (λ (x : ℕ). bitAnd x b) (and-self a)
+
+pub under-trans : (x y z : ℕ) → bitAnd x y ≡ x → bitAnd y z ≡ y → bitAnd x z ≡ x
+under-trans x y z p q = ap (λ (w : ℕ). bitAnd w z) (sym p) ∙ and-assoc x y z ∙ ap (bitAnd x) q ∙ p
+
+pub set-under : (l : List ℕ) (i v : ℕ) → bitAnd v (getD l i 0) ≡ v → (k : ℕ) → bitAnd (getD (set l i v) k 0) (getD l k 0) ≡ getD (set l i v) k 0
+set-under [] i v h k = refl
+set-under (x ∷ l) zero v h zero = h
+set-under (x ∷ l) zero v h (suc k) = and-self (getD l k 0)
+set-under (x ∷ l) (suc i) v h zero = and-self x
+set-under (x ∷ l) (suc i) v h (suc k) = set-under l i v h k
 
 -- A blank part.
 

@@ -3,7 +3,7 @@
 use Prim.Native.Nat.{ℕ, zero, suc, _+_, _-_, _≤_, _<_}
 use native.Mathlib.Nat.{add-zero, sub-zero, zero-sub, suc-sub-suc}
 use native.Mathlib.Omega.{arith}
-use mathlib.Core.Path.{_≡_, refl, sym, _∙_, ap}
+use mathlib.Core.Path.{_≡_, sym, _∙_, ap}
 use mathlib.Core.List.{List, [], _∷_, _++_, append-assoc}
 use lib.ListN.{length, getD, take, drop, set, length-append, length-take, length-drop, take-append-drop, List·getD-append}
 use lib.Seq.{sets, sets-eq, getD-take, getD-drop, take-take, take-length, drop-drop, take-nil, take-at, drop-at, length-take-le, getD-append-add, take-append-le, drop-append-le, drop-append-add}
@@ -50,6 +50,9 @@ part-after r′ r p o n e h = ap (take n) (sym (part r′) ∙ ap (drop (o - p))
   where
     part : (l : List ℕ) → drop (o - p) (drop p l) ≡ drop o l
     part l = let j : p + (o - p) ≡ o = omega arith in rw (drop-drop (o - p) p l, j)
+
+pub part-middle : (x y z : List ℕ) (a k : ℕ) → length x ≡ a → length y ≡ k → take k (drop a (x ++ (y ++ z))) ≡ y
+part-middle x y z a k e h = ap (take k) (drop-at x (y ++ z) a e) ∙ take-at y z k h
 
 -- A run of stores of b from p on.
 

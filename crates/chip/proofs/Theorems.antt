@@ -1,15 +1,19 @@
--- What a write of the chip leaves.
+-- What a write and an erase of the chip leave.
 -- Assumes nothing.
-use Prim.Native.Nat.{ℕ, _+_, _%_, _≤_}
+use Prim.Native.Nat.{ℕ, suc, _+_, _*_, _%_, _≤_, _<_}
 use native.Mathlib.Omega.{arith}
 use mathlib.Core.Path.{_≡_, sym, _∙_, ap}
 use mathlib.Core.Bool.{true}
+use mathlib.Core.Logic.{_⊎_, ⊎-elim}
 use mathlib.Core.List.{List, [], _∷_}
-use lib.Bits.{bitAnd}
-use lib.ListN.{length, getD, take, drop, length-take, length-drop}
+use lib.Bits.{bitAnd, and-self}
+use lib.ListN.{length, getD, set, take, drop, length-take, length-drop}
 use lib.Seq.{sets, getD-take, getD-drop}
 use Rattle.chip.specs.Chip.{Bytes, written, isBlank}
-use Rattle.chip.proofs.Laws.{written-stores, and-blank, and-clear, blank-at}
+use Rattle.chip.specs.Geometry.{eraseRegion}
+use Rattle.chip.proofs.Lists.{byte-before, byte-after}
+use Rattle.chip.proofs.Laws.{written-stores, and-blank, and-clear, and-under, under-trans, set-under, blank-at}
+use Rattle.chip.proofs.Image.{erase-within}
 
 -- Over 255 a write leaves the new bytes.
 pub over-blank : (image : List ℕ) (at : ℕ) (new : List ℕ) → Bytes new → at + length new ≤ length image
@@ -25,3 +29,17 @@ over-blank image at new b h e =
 pub clears-flag : (image : List ℕ) (at : ℕ) → written image at (getD image at 0 % 128 ∷ []) ≡ sets image at (getD image at 0 % 128 ∷ [])
 unfolding written
 clears-flag image at = rw (and-clear (getD image at 0))
+
+-- Outside an erase no bit goes from 0 to 1: at every place the bits after a write are among those before it.
+pub write-clears : (image : List ℕ) (at : ℕ) (new : List ℕ) (k : ℕ) → bitAnd (getD (written image at new) k 0) (getD image k 0) ≡ getD (written image at new) k 0
+unfolding written
+write-clears image at [] k = and-self (getD image k 0)
+write-clears image at (b ∷ new) k =
+    let old = getD image at 0 in
+    under-trans _ _ _ (write-clears (set image at (bitAnd old b)) (suc at) new k) (set-under image at (bitAnd old b) (and-under old b) k)
+
+-- An erase alters its region alone: every byte before or behind it is as it was.
+pub erase-only : (s r : ℕ) (image : List ℕ) (k : ℕ) → (k < r * s) ⊎ (r * s + s ≤ k) → getD (eraseRegion s r image) k 0 ≡ getD image k 0
+erase-only s r image k =
+    let w = erase-within s r image in
+    ⊎-elim (byte-before _ _ _ k (w .before)) (byte-after _ _ _ k (w .after))

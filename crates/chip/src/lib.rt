@@ -1,4 +1,12 @@
 // What the flash chip does to its bytes: a write clears bits, an erase sets them all.
+mod geometry;
+
+pub use geometry::LARGEST_SIZE;
+pub use geometry::LEAST_SIZE;
+pub use geometry::MOST_REGIONS;
+pub use geometry::erase_region;
+pub use geometry::fits;
+pub use geometry::is_sized;
 ghost use mathlib.Core.Path.{_≡_};
 ghost use Prim.Native.Nat.{_+_, _≤_};
 ghost use lib.ListN.{length, replicate};

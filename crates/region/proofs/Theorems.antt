@@ -24,7 +24,7 @@ use Rattle.region.specs.Record.{recordLength, headerAndValue, recordByte
 use Rattle.region.specs.Walk.{stepAt, live, walkFrom, records, ending, valueIn, bytesIn, recordOf, dead, isWanted, eventOf, eventIn}
 use Rattle.region.proofs.Bytes.{length-record, record-bytes, record-says, value-says, sum-says}
 use Rattle.region.proofs.Steps.{found-fits, placeOf}
-use Rattle.region.proofs.Reach.{reach-le, Split, split, split-records}
+use Rattle.region.proofs.Reach.{reach-le, reach-stop, reach-within, Split, split, split-records}
 use Rattle.region.proofs.Same.{Kept}
 use Rattle.region.proofs.Search as Search
 use Rattle.region.proofs.Search.{First, None, first-live, is-first, none-passes}
@@ -59,7 +59,10 @@ pub records-apart : (r : List ℕ) (a : List Record) (x : Record) (b : List Reco
     → records r ≡ a ++ x ∷ (b ++ y ∷ c) → x .at + x .len ≤ y .at
 records-apart r a x b y c e = reach-le (split b y c (split-records r a x (b ++ y ∷ c) e .from) .to)
 
--- The walk stops behind the last record.
+-- The walk stops within the region, behind the last record.
+pub stop-within : (r : List ℕ) → placeOf (ending r) ≤ length r
+stop-within r = reach-within (omega arith) (reach-stop r)
+
 pub stops-behind : (r : List ℕ) (a : List Record) (x : Record) (b : List Record) → records r ≡ a ++ x ∷ b → x .at + x .len ≤ placeOf (ending r)
 stops-behind r a x b e = reach-le (split-records r a x b e .from)
 
