@@ -20,7 +20,7 @@ use Rattle.chip.specs.Chip.{Bytes, written, erased, isBlank}
 pub length-written : (image : List ℕ) (at : ℕ) (new : List ℕ) → length (written image at new) ≡ length image
 unfolding written
 length-written image at [] = refl
-length-written image at (b ∷ new) = length-written (set image at (bitAnd (getD image at 0) b)) (suc at) new ∙ length-set image at (bitAnd (getD image at 0) b)
+length-written image at (b ∷ new) = length-written (set image at _) (suc at) new ∙ length-set image at _
 
 pub written-one : (image new : List ℕ) (at i : ℕ) → i < length new
     → written (set image (at + i) (bitAnd (getD image (at + i) 0) (getD new i 0))) (at + (i + 1)) (drop (i + 1) new) ≡ written image (at + i) (drop i new)

@@ -1,4 +1,6 @@
 -- What is known of a region, and of what a write does to it. Every region is any list of bytes, damaged or not, unless a line says more.
+-- `None`, `First` (Search.antt): no record of a list is wanted, and the first that is. `Kept` (Same.antt): the bytes of these records are the same
+-- in both regions. `placeOf` (Steps.antt): the place of a stop.
 -- Assumes nothing.
 use Prim.Native.Nat.{ℕ, _+_, _%_, _^_, _≤_, _<_}
 use native.Mathlib.Nat.{add-zero}
@@ -11,7 +13,7 @@ use lib.Seq.{sets, take-all}
 use borrow.Author.Tests.{lt-leb}
 use Rattle.crc32.proofs.Theorems.{checksum-fits}
 use Rattle.chip.specs.Chip.{Bytes, erased, isBlank}
-use Rattle.chip.proofs.Lists.{sets-part}
+use Rattle.chip.proofs.Lists.{sets-after, sets-part}
 use Rattle.chip.proofs.Laws.{blank-take, blank-erased}
 use Rattle.chip.proofs.Theorems.{over-blank}
 use Rattle.region.specs.declared.Record.{Record}
@@ -29,7 +31,7 @@ use Rattle.region.proofs.Same.{Kept}
 use Rattle.region.proofs.Search as Search
 use Rattle.region.proofs.Search.{First, None, first-live, is-first, none-passes}
 use Rattle.region.proofs.Change.{walk-blank, walk-laid, kept-laid, walk-buried, kept-buried}
-use Rattle.region.proofs.Kill.{invalidate-buries, zeroise-buries}
+use Rattle.region.proofs.Kill.{length-zero, zeroise-stores, invalidate-buries, zeroise-buries}
 
 -- A live record decides a search where it is the first that is wanted, and only there.
 pub live-decides : (r : List ℕ) (want : Want) (x : Record) → eventIn r want ≡ Event.Live x → First (isWanted want) (records r) x
@@ -118,6 +120,37 @@ zeroise-kills r a x b e =
     let u = zeroise-buries r x l f in
     (walk-buried (zeroised r (x .at) (x .len)) r a x b u e, kept-buried (zeroised r (x .at) (x .len)) r a x b u e)
 
--- A dead record is not live, and a record that append writes is.
+-- Zeroise leaves the record's header with the top flag cleared, and zeros over its value and checksum.
+pub zeroise-zeros : (r : List ℕ) (a : List Record) (x : Record) (b : List Record) → records r ≡ a ++ x ∷ b
+    → bytesIn (zeroised r (x .at) (x .len)) x ≡ zeroBytes r (x .at) (x .len)
+zeroise-zeros r a x b e =
+    let (l, f) = records-within r a x b e in
+    let n = length-zero r (x .at) (x .len) l f in
+    let fits : x .at + length (zeroBytes r (x .at) (x .len)) ≤ length r = omega arith in
+    let w = sets-part r (x .at) (zeroBytes r (x .at) (x .len)) fits 0 (x .len) (omega arith) in
+    rw (zeroise-stores r (x .at) (x .len) l f) (rw add-zero at w ∙ take-all (x .len) (zeroBytes r (x .at) (x .len)) (omega arith))
+
+-- The bytes behind the last record stay: a tail that is all 255 is so after each of the writes.
+pub append-tail : (r : List ℕ) (o key : ℕ) (value : List ℕ) → isBlank (drop o r) ≡ true → o + recordLength value ≤ length r → length value ≤ 4079 → Bytes value
+    → drop (o + recordLength value) (appended r o key value) ≡ drop (o + recordLength value) r
+append-tail r o key value b f l v =
+    let new = recordBytes key value in
+    let n = length-record key value in
+    let fits : o + length new ≤ length r = omega arith in
+    let s = over-blank r o new (record-bytes key value l v) fits (blank-take (length new) (drop o r) b) in
+    subst (λ (m : ℕ). drop (o + m) (appended r o key value) ≡ drop (o + m) r) n (rw s (sets-after r o new fits))
+
+pub invalidate-tail : (r : List ℕ) (a : List Record) (x : Record) (b : List Record) → records r ≡ a ++ x ∷ b
+    → drop (x .at + x .len) (invalidated r (x .at)) ≡ drop (x .at + x .len) r
+invalidate-tail r a x b e = let (l, f) = records-within r a x b e in invalidate-buries r x l f .after
+
+pub zeroise-tail : (r : List ℕ) (a : List Record) (x : Record) (b : List Record) → records r ≡ a ++ x ∷ b
+    → drop (x .at + x .len) (zeroised r (x .at) (x .len)) ≡ drop (x .at + x .len) r
+zeroise-tail r a x b e = let (l, f) = records-within r a x b e in zeroise-buries r x l f .after
+
+-- A record that append writes is live, and one without its top flag is not.
+pub written-is-live : (o key : ℕ) (value : List ℕ) → live (recordOf o key value) ≡ true
+written-is-live o key value = refl
+
 pub dead-not-live : (x : Record) → live (dead x) ≡ false
 dead-not-live x = lt-leb 8 (x .flags % 8) (omega arith)

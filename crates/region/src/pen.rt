@@ -9,7 +9,7 @@ use crate::Record;
 
 // Version, flags and length, and key of a live record.
 fn header_of(len: usize, key: u64) -> [u8; 11]
-    requires { ⌜ len < 4096 ⌝ }
+    requires { ⌜ len ≤ 4094 ⌝ }
     ensures { λ r. ⌜ r ≡ header 8 len key ⌝ }
 {
     [
