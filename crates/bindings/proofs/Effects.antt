@@ -1,0 +1,79 @@
+-- What append's write, a removal's write and an erase do to the live records of their region.
+-- Assumes nothing.
+use Prim.Native.Nat.{ℕ, _+_, _^_, _≤_, _<_}
+use native.Mathlib.Omega.{arith}
+use mathlib.Core.Path.{_≡_, sym, _∙_, ap, subst}
+use mathlib.Core.Bool.{true, false, false≢true, true≢false}
+use mathlib.Core.Logic.{_⊎_, inl, inr, ⊎-elim}
+use mathlib.Core.List.{List, [], _∷_, _++_, append-assoc, List·Memᴰ, List·Memᴰ·not-nil, List·Memᴰ·eq-of-singleton, Memᴰ·append-left, Memᴰ·append-right, List·Memᴰ·append-cases, List·Memᴰ·head}
+use lib.ListN.{length}
+use Rattle.chip.specs.Chip.{Bytes, erased}
+use Rattle.region.specs.declared.Record.{Record}
+use Rattle.region.specs.declared.Want.{Want}
+use Rattle.region.specs.Record.{recordLength, appended}
+use Rattle.region.specs.Walk.{live, View, records, recordOf, dead, isWanted}
+use Rattle.region.proofs.Search.{None}
+use Rattle.region.proofs.Theorems.{records-within, records-apart, blank-region, dead-not-live}
+use Rattle.store.specs.declared.Removal.{Removal}
+use Rattle.bindings.proofs.Members.{every-member, around, beside, middle-cases}
+use Rattle.bindings.proofs.Sound.{Sound, append-view, removedFrom, remove-view}
+use Rattle.bindings.proofs.Images.{Effect}
+
+module _ (region : List ℕ) (s : Sound region) (key : ℕ) (value : List ℕ) (fits : s .end + recordLength value ≤ length region) (k : key < 2 ^ 64) (l : length value ≤ 4079) (v : Bytes value) where
+  pub append-effect : Effect (appended region (s .end) key value) region (λ x. x ≡ recordOf (s .end) key value) (λ _. ⊥)
+  append-effect =
+      let (view, kept) = append-view region s key value fits k l v in
+      let recs = ap (λ (w : View). w .recs) view in
+      record {
+        from = λ x m a. ⊎-elim (λ o. inl (o, every-member kept o, λ g. g)) (λ o. inr (List·Memᴰ·eq-of-singleton o)) (List·Memᴰ·append-cases (records region) (subst (λ (xs : List Record). List·Memᴰ x xs) recs m));
+        to = λ x m a g. (subst (λ (xs : List Record). List·Memᴰ x xs) (sym recs) (Memᴰ·append-left (recordOf (s .end) key value ∷ []) m), every-member kept m);
+        new = λ x e. (subst (λ (xs : List Record). List·Memᴰ x xs) (sym recs) (Memᴰ·append-right (records region) (List·Memᴰ·head e)), ap live e);
+      }
+
+-- a record comes once among those of a region: two of them lie at different places
+pub not-again : (region : List ℕ) (a : List Record) (x : Record) (b : List Record) → records region ≡ a ++ x ∷ b → (y : Record) → List·Memᴰ y (a ++ b) → y ≡ x → ⊥
+not-again region a x b e y m q = ⊎-elim before after (List·Memᴰ·append-cases a m)
+  where
+    before : List·Memᴰ y a → ⊥
+    before i =
+        let w = around i in
+        let split : records region ≡ w .before ++ y ∷ (w .after ++ x ∷ b) = e ∙ ap (λ (l : List Record). l ++ x ∷ b) (w .split) ∙ append-assoc (w .before) (y ∷ w .after) (x ∷ b) in
+        let apart = records-apart region (w .before) y (w .after) x b split in
+        let (least, _) = records-within region (w .before) y (w .after ++ x ∷ b) split in
+        let same : y .at ≡ x .at = ap (λ (z : Record). z .at) q in
+        omega arith
+
+    after : List·Memᴰ y b → ⊥
+    after i =
+        let w = around i in
+        let split : records region ≡ a ++ x ∷ (w .before ++ y ∷ w .after) = e ∙ ap (λ (l : List Record). a ++ x ∷ l) (w .split) in
+        let apart = records-apart region a x (w .before) y (w .after) split in
+        let (least, _) = records-within region a x b e in
+        let same : y .at ≡ x .at = ap (λ (z : Record). z .at) q in
+        omega arith
+
+module _ (how : Removal) (region : List ℕ) (s : Sound region) (a : List Record) (x : Record) (b : List Record) (e : records region ≡ a ++ x ∷ b) where
+  pub remove-effect : Effect (removedFrom how region x) region (λ _. ⊥) (λ y. y ≡ x)
+  remove-effect =
+      let (view, kept) = remove-view how region s a x b e in
+      let recs = ap (λ (w : View). w .recs) view in
+      record {
+        from = λ y m l. ⊎-elim
+            (λ q. absurd (false≢true (sym (dead-not-live x) ∙ ap live (sym q) ∙ l)))
+            (λ i. inl (subst (λ (xs : List Record). List·Memᴰ y xs) (sym e) (beside a x b i), every-member kept i, not-again region a x b e y i))
+            (middle-cases a (dead x) b (subst (λ (xs : List Record). List·Memᴰ y xs) recs m));
+        to = λ y m l g. ⊎-elim
+            (λ q. absurd (g q))
+            (λ i. (subst (λ (xs : List Record). List·Memᴰ y xs) (sym recs) (beside a (dead x) b i), every-member kept i))
+            (middle-cases a x b (subst (λ (xs : List Record). List·Memᴰ y xs) e m));
+        new = λ y n. absurd n;
+      }
+
+pub erase-effect : (size : ℕ) (region : List ℕ) → None (isWanted Want.Any) (records region) → Effect (erased size) region (λ _. ⊥) (λ _. ⊥)
+erase-effect size region dull =
+    let recs = ap (λ (w : View). w .recs) (blank-region size) in
+    record {
+      from = λ x m l. absurd (List·Memᴰ·not-nil (subst (λ (xs : List Record). List·Memᴰ x xs) recs m));
+      to = λ x m l g. absurd (true≢false (sym l ∙ every-member dull m));
+      new = λ x n. absurd n;
+    }

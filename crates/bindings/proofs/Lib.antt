@@ -1,0 +1,13 @@
+pub mod Members
+pub mod Sound
+pub mod Images
+pub mod Effects
+pub mod Lookups
+pub mod Outcomes
+pub mod Kept
+pub mod Collects
+pub mod Answers
+pub mod Lasting
+pub mod Bits
+pub mod Sane
+pub mod Theorems

@@ -1,0 +1,104 @@
+-- What a lookup finds in a well-formed image: the key's live record, or that there is none.
+-- Assumes nothing.
+use Prim.Native.Nat.{ℕ}
+use native.Mathlib.Omega.{arith}
+use mathlib.Core.Path.{_≡_, refl, sym, _∙_, ap, subst}
+use mathlib.Core.Bool.{Bool, true, false, _&&_, true≢false}
+use mathlib.Core.List.{List, [], _∷_, List·Memᴰ, List·Memᴰ·head, List·Memᴰ·tail}
+use lib.Dec.{eqb}
+use borrow.Author.Tests.{eqb-true, eq-eqb}
+use Rattle.chip.specs.Geometry.{regionOf}
+use Rattle.probe.specs.Probe.{probes}
+use Rattle.probe.proofs.Theorems.{members}
+use Rattle.region.specs.declared.Record.{Record}
+use Rattle.region.specs.declared.Fault.{Fault}
+use Rattle.region.specs.declared.Stop.{Stop}
+use Rattle.region.specs.declared.Want.{Want}
+use Rattle.region.specs.declared.Event.{Event}
+use Rattle.region.specs.Walk.{live, records, isWanted, eventIn}
+use Rattle.region.proofs.Search.{None}
+use Rattle.region.proofs.Theorems.{live-decides, stop-decides}
+use Rattle.lookup.specs.declared.Need.{Need}
+use Rattle.lookup.specs.declared.Seen.{Seen}
+use Rattle.lookup.specs.declared.Looked.{Looked}
+use Rattle.lookup.specs.Lookup.{onEvent, firstDecides, gathered, lookupIn}
+use Rattle.lookup.proofs.Scan.{found}
+use Rattle.bindings.specs.WellFormed.{Live, WellFormed}
+use Rattle.bindings.proofs.Members.{every-member, middle}
+
+-- a record is wanted where it is live and has the key
+pub wanted : (key : ℕ) (x : Record) → isWanted (Want.Key key) x ≡ true → (live x ≡ true) × (x .key ≡ key)
+wanted key x h = go (live x) refl (eqb (x .key) key) refl h
+  where
+    go : (a : Bool) → live x ≡ a → (b : Bool) → eqb (x .key) key ≡ b → (a && b) ≡ true → (live x ≡ true) × (x .key ≡ key)
+    go true p true q h = (p, eqb-true _ _ q)
+    go true p false q h = absurd (true≢false (sym h))
+    go false p b q h = absurd (true≢false (sym h))
+
+pub is-wanted : (key : ℕ) (x : Record) → live x ≡ true → x .key ≡ key → isWanted (Want.Key key) x ≡ true
+is-wanted key x l k = rw (l, eq-eqb (x .key) key k)
+
+-- Where a lookup ends at a bad place, one of its regions has one.
+bad-from : (key s : ℕ) (image rs : List ℕ) (seen : Seen) (f : Fault) (p : ℕ) → firstDecides key s image rs (Looked.Through seen) ≡ Looked.Bad f p
+    → (r : ℕ) × List·Memᴰ r rs × ((o : ℕ) × (eventIn (regionOf s image r) (Want.Key key) ≡ Event.Bad f o))
+unfolding firstDecides
+bad-from key s image [] seen f p h = absurd (let z : _≡_ {A = ℕ} 0 1 = cc in omega arith)
+bad-from key s image (q ∷ rs) seen f p h = go (bad-from key s image rs seen f p) (eventIn (regionOf s image q) (Want.Key key)) refl h
+  where
+    go : (firstDecides key s image rs (Looked.Through seen) ≡ Looked.Bad f p → (r : ℕ) × List·Memᴰ r rs × ((o : ℕ) × (eventIn (regionOf s image r) (Want.Key key) ≡ Event.Bad f o)))
+        → (e : Event) → eventIn (regionOf s image q) (Want.Key key) ≡ e → onEvent s q e (firstDecides key s image rs (Looked.Through seen)) ≡ Looked.Bad f p
+        → (r : ℕ) × List·Memᴰ r (q ∷ rs) × ((o : ℕ) × (eventIn (regionOf s image r) (Want.Key key) ≡ Event.Bad f o))
+    go ih (Event.Live y) e h = absurd (let z : _≡_ {A = ℕ} 0 1 = cc in omega arith)
+    go ih (Event.Bad g o) e h = (q, List·Memᴰ·head refl, (o, e ∙ (let same : g ≡ f = cc in ap (λ (t : Fault). Event.Bad t o) same)))
+    go ih (Event.End o) e h = let (r, m, t) = ih h in (r, List·Memᴰ·tail m, t)
+
+-- Where a lookup goes through all regions, none has a live record of the key.
+through-none : (key s : ℕ) (image rs : List ℕ) (seen got : Seen) → firstDecides key s image rs (Looked.Through seen) ≡ Looked.Through got
+    → (r : ℕ) → List·Memᴰ r rs → None (isWanted (Want.Key key)) (records (regionOf s image r))
+unfolding firstDecides
+through-none key s image (q ∷ rs) seen got h r m = go (through-none key s image rs seen got) (eventIn (regionOf s image q) (Want.Key key)) refl h m
+  where
+    go : (firstDecides key s image rs (Looked.Through seen) ≡ Looked.Through got → (r : ℕ) → List·Memᴰ r rs → None (isWanted (Want.Key key)) (records (regionOf s image r)))
+        → (e : Event) → eventIn (regionOf s image q) (Want.Key key) ≡ e → onEvent s q e (firstDecides key s image rs (Looked.Through seen)) ≡ Looked.Through got
+        → List·Memᴰ r (q ∷ rs) → None (isWanted (Want.Key key)) (records (regionOf s image r))
+    go ih (Event.Live y) e h m = absurd (let z : _≡_ {A = ℕ} 0 1 = cc in omega arith)
+    go ih (Event.Bad f o) e h m = absurd (let z : _≡_ {A = ℕ} 0 1 = cc in omega arith)
+    go ih (Event.End o) e h (List·Memᴰ·head p) = rw p (stop-decides (regionOf s image q) (Want.Key key) (Stop.End o) e .0)
+    go ih (Event.End o) e h (List·Memᴰ·tail m) = ih h r m
+
+module _ {s n : ℕ} {image : List ℕ} (w : WellFormed s n image) (key : ℕ) (need : Need) where
+  -- no bad place is met
+  pub never-bad : (f : Fault) (p : ℕ) → lookupIn key need s image (probes key n) ≡ Looked.Bad f p → ⊥
+  never-bad f p h =
+      let (r, m, (o, e)) = bad-from key s image (probes key n) (gathered need s image (probes key n)) f p h in
+      let (_, stop) = stop-decides (regionOf s image r) (Want.Key key) (Stop.Bad f o) e in
+      let (q, end) = w .no-bad r (members key n r (w .fits .shape .n-least) .1 m) in
+      let z : _≡_ {A = ℕ} 0 1 = cc in
+      omega arith
+
+  -- through all regions: the key has no live record
+  pub not-there : (seen : Seen) → lookupIn key need s image (probes key n) ≡ Looked.Through seen → (r : ℕ) (x : Record) → Live s n image r x → x .key ≡ key → ⊥
+  not-there seen h r x l k =
+      let m = members key n r (w .fits .shape .n-least) .0 (l .stored .number) in
+      let dull = through-none key s image (probes key n) (gathered need s image (probes key n)) seen h r m in
+      true≢false (sym (is-wanted key x (l .alive) k) ∙ every-member dull (l .stored .member))
+
+  -- a live record that is found is live in the image, and has the key
+  pub found-live : (r : ℕ) (x : Record) → lookupIn key need s image (probes key n) ≡ Looked.Live r x → Live s n image r x × (x .key ≡ key)
+  found-live r x h =
+      let o = found key need r x (w .fits) h in
+      let first = live-decides (regionOf s image r) (Want.Key key) x (o .event) in
+      let (alive, key-is) = wanted key x (first .passes) in
+      (record { stored = record { number = o .number; member = subst (λ (xs : List Record). List·Memᴰ x xs) (sym (first .split)) (middle (first .before) x (first .after)) }; alive = alive }, key-is)
+
+  -- and a live record of the key is found
+  pub is-found : (r : ℕ) (x : Record) → Live s n image r x → x .key ≡ key → lookupIn key need s image (probes key n) ≡ Looked.Live r x
+  is-found r x l k = go (lookupIn key need s image (probes key n)) refl
+    where
+      go : (t : Looked) → lookupIn key need s image (probes key n) ≡ t → t ≡ Looked.Live r x
+      go (Looked.Live q y) e =
+          let (m, j) = found-live q y e in
+          let (a, b) = w .once q r y x m l (j ∙ sym k) in
+          λ i. Looked.Live (a i) (b i)
+      go (Looked.Bad f p) e = absurd (never-bad f p e)
+      go (Looked.Through seen) e = absurd (not-there seen e r x l k)

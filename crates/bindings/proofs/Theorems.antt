@@ -1,0 +1,172 @@
+-- What a stored record can count on. Read from top to bottom: the sentences of the third demand on what a call does to the bindings, and what
+-- follows for a stored record. The arguments are in the files beside this one.
+-- `key < 2 ^ 64` and `Bytes value` say of a key and a value what the types of the calls say: 64 bits, bytes.
+-- Assumes nothing.
+use Prim.Native.Nat.{ℕ, _+_, _*_, _^_, _≤_, _<_}
+use native.Mathlib.Omega.{arith}
+use mathlib.Core.Path.{_≡_, refl, sym, _∙_, ap, subst}
+use mathlib.Core.Bool.{true}
+use mathlib.Core.Logic.{_⊎_, inl, _↔_}
+use mathlib.Core.List.{List, _++_}
+use lib.ListN.{length, getD, take, drop}
+use Rattle.chip.specs.Chip.{Bytes, erased}
+use Rattle.chip.specs.Geometry.{Shape, regionOf, eraseRegion}
+use Rattle.chip.proofs.Theorems.{erase-only}
+use Rattle.probe.specs.Probe.{allowedKey, home, probes}
+use Rattle.probe.proofs.Theorems.{probes-length}
+use Rattle.chip.proofs.Image.{region-length}
+use Rattle.region.specs.declared.Stop.{Stop}
+use Rattle.region.specs.Record.{recordLength}
+use Rattle.region.specs.Walk.{ending}
+use Rattle.lookup.specs.declared.Refusal.{Refusal}
+use Rattle.lookup.specs.declared.Need.{Need}
+use Rattle.lookup.specs.declared.Hit.{Hit}
+use Rattle.lookup.specs.Lookup.{hitOf}
+use Rattle.store.specs.declared.Answer.the-variants.{Complete, Written, Freed, Refused}
+use Rattle.store.specs.declared.Removal.{Removal}
+use Rattle.store.specs.Store.{Done, refused, getOf, appendOf, removeBy, removeOf, collectOf, initialiseOf}
+use Rattle.store.specs.Answer.{refusal}
+use Rattle.store.specs.Call.{Call, answerOf, imageAfter}
+use Rattle.bindings.specs.WellFormed.{EndsAt, WellFormed, Bound}
+use Rattle.bindings.specs.Calls.{Typed, imageAfterAll, SparesAll, regionsRead, OnlyCleared}
+use Rattle.bindings.proofs.Images.{blank-not-stored}
+use Rattle.bindings.proofs.Images as Images
+use Rattle.bindings.proofs.Lookups.{found-live}
+use Rattle.bindings.proofs.Outcomes.{Hitting, hitting, Appending, appending}
+use Rattle.bindings.proofs.Kept as Kept
+use Rattle.bindings.proofs.Collects.{collect-done}
+use Rattle.bindings.proofs.Answers as Answers
+use Rattle.bindings.proofs.Lasting.{call-keeps, all-hold, read-most}
+use Rattle.bindings.proofs.Bits as Bits
+use Rattle.bindings.proofs.Sane.{call-sane}
+
+-- The blank image is well-formed, and has no bindings.
+pub blank-well-formed : {s n : ℕ} → Shape s n → WellFormed s n (erased (n * s))
+blank-well-formed h = Images.blank-well-formed h
+
+pub blank-unbound : (s n key : ℕ) (value : List ℕ) → Bound s n (erased (n * s)) key value → ⊥
+blank-unbound s n key value b = blank-not-stored s n (b .region) (b .rec) (b .held .stored)
+
+-- Every operation on a well-formed image leaves a well-formed image, answered or refused.
+pub stays-well-formed : {s n : ℕ} {image : List ℕ} → WellFormed s n image → (c : Call) → Typed c → WellFormed s n (imageAfter c image s n)
+stays-well-formed w c t = call-keeps w c t
+
+-- "An append that succeeds adds its key and value and nothing else".
+pub append-adds : {s n : ℕ} {image : List ℕ} → WellFormed s n image → (key : ℕ) (value : List ℕ) → key < 2 ^ 64 → Bytes value
+    → appendOf image s n key value .answer ≡ Written
+    → (key′ : ℕ) (value′ : List ℕ) → Bound s n (appendOf image s n key value .image) key′ value′ ↔ (((key′ ≡ key) × (value′ ≡ value)) ⊎ Bound s n image key′ value′)
+append-adds {s} {n} {image} w key value k v h = go (appendOf image s n key value) (appending image s n key value) h
+  where
+    go : (d : Done) → Appending image s n key value d → d .answer ≡ Written
+        → (key′ : ℕ) (value′ : List ℕ) → Bound s n (d .image) key′ value′ ↔ (((key′ ≡ key) × (value′ ≡ value)) ⊎ Bound s n image key′ value′)
+    go d (Appending.early z e) h = absurd (let q : _≡_ {A = ℕ} 0 1 = cc in omega arith)
+    go d (Appending.there r x a e) h = absurd (let q : _≡_ {A = ℕ} 0 1 = cc in omega arith)
+    go d (Appending.bad f p a e) h = absurd (let q : _≡_ {A = ℕ} 0 1 = cc in omega arith)
+    go d (Appending.full seen a e q) h = absurd (let q : _≡_ {A = ℕ} 0 1 = cc in omega arith)
+    go d (Appending.unblank seen r o a e i y) h = absurd (let q : _≡_ {A = ℕ} 0 1 = cc in omega arith)
+    go d (Appending.wrote seen r o a e i y) h = Kept.append-binds w key value k v a seen e r o i y
+
+-- "a removal takes its key's away": and no other binding.
+pub removal-takes : {s n : ℕ} {image : List ℕ} → WellFormed s n image → (how : Removal) (key : ℕ) → removeOf how image s n key .answer ≡ Written
+    → (key′ : ℕ) (value′ : List ℕ) → Bound s n (removeOf how image s n key .image) key′ value′ ↔ (Bound s n image key′ value′ × (key′ ≡ key → ⊥))
+unfolding removeOf
+removal-takes {s} {n} {image} w how key h = go (hitOf image s n key) (hitting image s n key) h
+  where
+    go : (t : Hit) → Hitting image s n key t → removeBy how s image t .answer ≡ Written
+        → (key′ : ℕ) (value′ : List ℕ) → Bound s n (removeBy how s image t .image) key′ value′ ↔ (Bound s n image key′ value′ × (key′ ≡ key → ⊥))
+    go t (Hitting.early z e) h = absurd (let q : _≡_ {A = ℕ} 0 1 = cc in omega arith)
+    go t (Hitting.bad f p a e) h = absurd (let q : _≡_ {A = ℕ} 0 1 = cc in omega arith)
+    go t (Hitting.missing seen a e) h = absurd (let q : _≡_ {A = ℕ} 0 1 = cc in omega arith)
+    go t (Hitting.hit r x a e) h = λ key′ value′.
+        let (l, q) = found-live w key Need.Nothing r x e in
+        subst (λ (k : ℕ). Bound s n (removeBy how s image (Hit.Live r x) .image) key′ value′ ↔ (Bound s n image key′ value′ × (key′ ≡ k → ⊥))) q (Kept.remove-unbinds w how r x l key′ value′)
+
+-- "a collection alters none", and it is not refused.
+pub collection-alters-none : {s n : ℕ} {image : List ℕ} → WellFormed s n image
+    → ((f : ℕ) × (collectOf image s n .answer ≡ Freed f)) × ((key : ℕ) (value : List ℕ) → Bound s n (collectOf image s n .image) key value ↔ Bound s n image key value)
+collection-alters-none w = let (c, f) = collect-done w in (f, c .same)
+
+-- Get of a bound key into a buffer long enough: Complete and the value. Into a shorter one: BufferTooSmall and its first bytes.
+-- Of an unbound key: KeyNotFound, and the buffer stays.
+pub get-finds : {s n : ℕ} {image : List ℕ} → WellFormed s n image → (key : ℕ) (value buffer : List ℕ) → Bound s n image key value → length value ≤ length buffer
+    → getOf image s n key buffer ≡ record { answer = Complete (length value); buffer = value ++ drop (length value) buffer }
+get-finds w key value buffer b h = Answers.get-bound w key b buffer h
+
+pub get-fills : {s n : ℕ} {image : List ℕ} → WellFormed s n image → (key : ℕ) (value buffer : List ℕ) → Bound s n image key value → length buffer < length value
+    → getOf image s n key buffer ≡ record { answer = Refused (Refusal.BufferTooSmall (length value)); buffer = take (length buffer) value }
+get-fills w key value buffer b h = Answers.get-short w key b buffer h
+
+pub get-misses : {s n : ℕ} {image : List ℕ} → WellFormed s n image → (key : ℕ) (buffer : List ℕ) → allowedKey key ≡ true → ((value : List ℕ) → Bound s n image key value → ⊥)
+    → getOf image s n key buffer ≡ record { answer = Refused Refusal.KeyNotFound; buffer = buffer }
+get-misses w key buffer k none = Answers.get-unbound w key buffer k none
+
+-- Append of a bound key: KeyAlreadyExists, and the image stays.
+pub append-refuses : {s n : ℕ} {image : List ℕ} → WellFormed s n image → (key : ℕ) (held value : List ℕ) → Bound s n image key held → length value ≤ 4079
+    → appendOf image s n key value ≡ refused Refusal.KeyAlreadyExists image
+append-refuses w key held value b l = Answers.append-bound w key b value l
+
+-- "So a stored record is found within N region reads, into a buffer long enough, until its own key is removed or initialise erases the chip":
+-- for any list of calls after its append, with any arguments.
+pub stored-is-found : {s n : ℕ} {image : List ℕ} → WellFormed s n image → (key : ℕ) (value : List ℕ) → key < 2 ^ 64 → Bytes value
+    → appendOf image s n key value .answer ≡ Written
+    → (calls : List Call) → SparesAll s n key (appendOf image s n key value .image) calls
+    → (buffer : List ℕ) → length value ≤ length buffer
+    → let later = imageAfterAll s n calls (appendOf image s n key value .image) in
+    (getOf later s n key buffer ≡ record { answer = Complete (length value); buffer = value ++ drop (length value) buffer })
+    × (length (regionsRead key s later (probes key n)) ≤ n)
+stored-is-found {s} {n} {image} w key value k v h calls p buffer l =
+    let image′ = appendOf image s n key value .image in
+    let w′ = call-keeps w (Call.append key value) (Typed.typed-append k v) in
+    let b = append-adds w key value k v h key value .1 (inl (refl, refl)) in
+    let (last, held) = all-hold s n key value calls image′ w′ b p in
+    (get-finds last key value buffer held l, rw (probes-length key n (w .fits .shape .n-least)) at (read-most key s (imageAfterAll s n calls image′) (probes key n)))
+
+-- The August fault: the key's home region has no room left for the record. If append writes it all the same, it lies in another region, and get finds it.
+pub spilled-is-found : {s n : ℕ} {image : List ℕ} → WellFormed s n image → (key : ℕ) (value : List ℕ) → key < 2 ^ 64 → Bytes value
+    → (end : ℕ) → EndsAt (regionOf s image (home key n)) end → s < end + recordLength value
+    → appendOf image s n key value .answer ≡ Written
+    → ((b : Bound s n (appendOf image s n key value .image) key value) × (b .region ≡ home key n → ⊥))
+    × ((buffer : List ℕ) → length value ≤ length buffer
+    → getOf (appendOf image s n key value .image) s n key buffer ≡ record { answer = Complete (length value); buffer = value ++ drop (length value) buffer })
+spilled-is-found {s} {n} {image} w key value k v end full-end full h = go (appendOf image s n key value) (appending image s n key value) h (call-keeps w (Call.append key value) (Typed.typed-append k v))
+  where
+    go : (d : Done) → Appending image s n key value d → d .answer ≡ Written → WellFormed s n (d .image)
+        → ((b : Bound s n (d .image) key value) × (b .region ≡ home key n → ⊥))
+        × ((buffer : List ℕ) → length value ≤ length buffer
+        → getOf (d .image) s n key buffer ≡ record { answer = Complete (length value); buffer = value ++ drop (length value) buffer })
+    go d (Appending.early z e) h w′ = absurd (let q : _≡_ {A = ℕ} 0 1 = cc in omega arith)
+    go d (Appending.there r x a e) h w′ = absurd (let q : _≡_ {A = ℕ} 0 1 = cc in omega arith)
+    go d (Appending.bad f p a e) h w′ = absurd (let q : _≡_ {A = ℕ} 0 1 = cc in omega arith)
+    go d (Appending.full seen a e q) h w′ = absurd (let q : _≡_ {A = ℕ} 0 1 = cc in omega arith)
+    go d (Appending.unblank seen r o a e i y) h w′ = absurd (let q : _≡_ {A = ℕ} 0 1 = cc in omega arith)
+    go d (Appending.wrote seen r o a e i y) h w′ =
+        let b = Kept.new-bound w key value k v a seen e r o i y in
+        let elsewhere : r ≡ home key n → ⊥ = λ p.
+        let same : Stop.End o ≡ Stop.End end = sym (y .ends) ∙ ap (λ (q : ℕ). ending (regionOf s image q)) p ∙ full-end in
+        let place : o ≡ end = cc in
+        omega (arith, y .room, region-length (w .fits) i) in
+        ((b, λ p. elsewhere (sym (Kept.new-region w key value k v a seen e r o i y) ∙ p)), λ buffer l. get-finds w′ key value buffer b l)
+
+-- On a well-formed image UnsupportedVersion, CorruptData and InvalidCheckSum never come, whatever is asked.
+pub never-broken : {s n : ℕ} {image : List ℕ} → WellFormed s n image → (c : Call)
+    → (refusal (answerOf c image s n) ≡ 7 → ⊥) × (refusal (answerOf c image s n) ≡ 8 → ⊥) × (refusal (answerOf c image s n) ≡ 10 → ⊥)
+never-broken w c = let a = call-sane w c in (a .version, a .corrupt, a .sum)
+
+-- "Outside an erase no bit goes from 0 to 1": of every operation, on every image, well-formed or not.
+pub append-only-clears : (image : List ℕ) (s n key : ℕ) (value : List ℕ) → OnlyCleared (appendOf image s n key value .image) image
+append-only-clears image s n key value = Bits.append-only-clears image s n key value
+
+pub removal-only-clears : (how : Removal) (image : List ℕ) (s n key : ℕ) → OnlyCleared (removeOf how image s n key .image) image
+removal-only-clears how image s n key = Bits.remove-only-clears how image s n key
+
+-- Collect leaves each region as it was, or erased; initialise leaves the image, or erases all and then only clears.
+pub collection-only-erases : (image : List ℕ) (s n r : ℕ)
+    → (regionOf s (collectOf image s n .image) r ≡ regionOf s image r) ⊎ (regionOf s (collectOf image s n .image) r ≡ erased s)
+collection-only-erases image s n r = Bits.collect-erases image s n r
+
+pub initialise-only-clears : (image : List ℕ) (s n key : ℕ) → (initialiseOf image s n key .image ≡ image) ⊎ OnlyCleared (initialiseOf image s n key .image) (erased (n * s))
+initialise-only-clears image s n key = Bits.initialise-clears image s n key
+
+-- What an erase may raise is just its region.
+pub erase-raises-its-region : (s r : ℕ) (image : List ℕ) (k : ℕ) → (k < r * s) ⊎ (r * s + s ≤ k) → getD (eraseRegion s r image) k 0 ≡ getD image k 0
+erase-raises-its-region s r image k h = erase-only s r image k h

@@ -1,0 +1,55 @@
+-- Calls after calls, and which of them leave a key's record alone.
+use Prim.Native.Nat.{ℕ, _^_, _<_}
+use mathlib.Core.Path.{_≡_}
+use mathlib.Core.Bool.{false}
+use mathlib.Core.List.{List, [], _∷_}
+use lib.Bits.{bitAnd}
+use lib.ListN.{getD}
+use Rattle.chip.specs.Chip.{Bytes}
+use Rattle.chip.specs.Geometry.{regionOf}
+use Rattle.region.specs.declared.Want.{Want}
+use Rattle.region.specs.declared.Event.{Event}
+use Rattle.region.specs.Walk.{eventIn}
+use Rattle.store.specs.declared.Removal.{Removal}
+use Rattle.store.specs.Store.{getOf, startsAnew}
+use Rattle.store.specs.Call.{Call, get, append, remove, collect, initialise, imageAfter}
+
+-- The arguments are what the types of the calls allow: a key of 64 bits, a value of bytes.
+pub data Typed : Call → Type 0 where
+  typed-get : {key : ℕ} {buffer : List ℕ} → Typed (get key buffer)
+  typed-append : {key : ℕ} {value : List ℕ} → key < 2 ^ 64 → Bytes value → Typed (append key value)
+  typed-remove : {how : Removal} {key : ℕ} → Typed (remove how key)
+  typed-collect : Typed collect
+  typed-initialise : {key : ℕ} → key < 2 ^ 64 → Typed (initialise key)
+
+-- "until its own key is removed or initialise erases the chip": a call that does neither to the key on this image
+pub data Spares (s n : ℕ) (key : ℕ) (image : List ℕ) : Call → Type 0 where
+  spares-get : {k : ℕ} {buffer : List ℕ} → Spares s n key image (get k buffer)
+  spares-append : {k : ℕ} {value : List ℕ} → Spares s n key image (append k value)
+  spares-remove : {how : Removal} {k : ℕ} → (k ≡ key → ⊥) → Spares s n key image (remove how k)
+  spares-collect : Spares s n key image collect
+  spares-initialise : {k : ℕ} → startsAnew (getOf image s n k [] .answer) ≡ false → Spares s n key image (initialise k)
+
+-- the image after a list of calls, one after the other
+unfoldable pub imageAfterAll : ℕ → ℕ → List Call → List ℕ → List ℕ
+imageAfterAll s n [] image = image
+imageAfterAll s n (c ∷ cs) image = imageAfterAll s n cs (imageAfter c image s n)
+
+-- each call of a list is typed, and spares the key on the image that it meets
+pub data SparesAll (s n key : ℕ) : List ℕ → List Call → Type 0 where
+  none : {image : List ℕ} → SparesAll s n key image []
+  also : {image : List ℕ} {c : Call} {cs : List Call} → Typed c → Spares s n key image c → SparesAll s n key (imageAfter c image s n) cs → SparesAll s n key image (c ∷ cs)
+
+abbrev pub onRead : ℕ → Event → List ℕ → List ℕ
+onRead r (Event.Live x) rest = r ∷ []
+onRead r (Event.Bad f o) rest = r ∷ []
+onRead r (Event.End o) rest = r ∷ rest
+
+-- the regions that a lookup of the key reads, of a list in its order: up to the one that decides
+unfoldable pub regionsRead : ℕ → ℕ → List ℕ → List ℕ → List ℕ
+regionsRead key s image [] = []
+regionsRead key s image (r ∷ rs) = onRead r (eventIn (regionOf s image r) (Want.Key key)) (regionsRead key s image rs)
+
+-- every bit that is set in the new image is set in the old
+abbrev pub OnlyCleared : List ℕ → List ℕ → Type 0
+OnlyCleared image′ image = (k : ℕ) → bitAnd (getD image′ k 0) (getD image k 0) ≡ getD image′ k 0
