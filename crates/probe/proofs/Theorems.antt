@@ -2,12 +2,12 @@
 -- The arguments are in Order.antt and Rust.antt.
 use Prim.Native.Nat.{ℕ, _≤_, _<_}
 use mathlib.Core.Path.{_≡_, refl}
-use mathlib.Core.List.{List, [], _∷_, List·Memᴰ}
+use mathlib.Core.List.{List, List·Memᴰ}
 use mathlib.Core.Logic.{_↔_}
 use native.Mathlib.Nat.{mod-lt}
 use native.Mathlib.Omega.{arith}
 use lib.ListN.{length, getD}
-use Rattle.probe.specs.Probe.{home, keep, around, outward, probe, probes}
+use Rattle.probe.specs.Probe.{home, probe, probes}
 pub use Rattle.probe.proofs.Order.{Distinct, none, one}
 use Rattle.probe.proofs.Order.{probe-length, probe-lt, probe-has, probe-once, probe-member, probe-distinct}
 use Rattle.probe.proofs.Rust.{Visits, same, rust-visits}
@@ -43,11 +43,6 @@ probes-distinct key n p = probe-distinct n _ (home-lt key n p)
 pub starts-home : (key n : ℕ) → getD (probes key n) 0 0 ≡ home key n
 unfolding probe
 starts-home key n = refl
-
--- Case 1: of four regions, key 1 probes 1, 2, 0, 3, and key 3 probes 3, 2, 1, 0.
-pub case-1 : (probes 1 4 ≡ 1 ∷ 2 ∷ 0 ∷ 3 ∷ []) × (probes 3 4 ≡ 3 ∷ 2 ∷ 1 ∷ 0 ∷ [])
-unfolding probe outward around keep
-case-1 = (refl, refl)
 
 -- A search that goes by the Rust's `increment_region_offset`, from the offset 0 on, looks at just these regions in this order.
 -- The Rust sets its loop no limit of turns. Here any limit from three on gives the same.

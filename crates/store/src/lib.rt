@@ -15,6 +15,7 @@ pub use write::append_key;
 pub use write::initialise;
 pub use write::invalidate_key;
 pub use write::lay_removal;
+pub use write::starts_anew;
 pub use write::zeroise_key;
 
 // What a call answers.

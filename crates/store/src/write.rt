@@ -87,7 +87,7 @@ pub fn zeroise_key(image: &mut [u8], s: usize, n: usize, key: u64) -> Answer
 }
 
 // Whether initialise erases the chip on this answer of its lookup.
-fn starts_anew(answer: Answer) -> bool
+pub fn starts_anew(answer: Answer) -> bool
     ensures { λ r. ⌜ r ≡ startsAnew answer ⌝ }
 {
     match answer {
