@@ -1,0 +1,9 @@
+pub mod Early
+pub mod Swept
+pub mod Blank
+pub mod Answers
+pub mod Written
+pub mod Collected
+pub mod Lookups
+pub mod Buffers
+pub mod Theorems

@@ -1,0 +1,248 @@
+-- What every call of the store answers and leaves, sentence by sentence of document 01. The arguments are in the other files.
+-- Assumes nothing.
+use Prim.Native.Nat.{ℕ, _+_, _-_, _*_, _≤_, _<_}
+use native.Mathlib.Omega.{arith}
+use mathlib.Core.Path.{_≡_, refl, sym, _∙_, ap, subst}
+use mathlib.Core.Bool.{Bool, true, false}
+use mathlib.Core.List.{List, [], _++_, List·Memᴰ}
+use mathlib.Core.Logic.{_↔_, ⊎-elim}
+use lib.ListN.{length, take, drop}
+use borrow.Author.Tests.{lt-ltb, le-ltb}
+use Rattle.chip.specs.Chip.{Bytes, written, erased, isBlank}
+use Rattle.chip.specs.Geometry.{Fits, regionOf}
+use Rattle.probe.specs.Probe.{home, probes}
+use Rattle.probe.proofs.Theorems.{members, Distinct}
+use Rattle.region.specs.declared.Record.{Record}
+use Rattle.region.specs.declared.Fault.{Fault}
+use Rattle.region.specs.declared.Event.{Event}
+use Rattle.region.specs.Record.{recordBytes, checkSumFits}
+use Rattle.region.specs.Walk.{bytesIn, valueIn}
+use Rattle.lookup.specs.declared.Refusal.{Refusal}
+use Rattle.lookup.specs.declared.Need.{Need}
+use Rattle.lookup.specs.declared.Room.{Room}
+use Rattle.lookup.specs.declared.Looked.{Looked}
+use Rattle.lookup.specs.Refusals.{refusalOf}
+use Rattle.lookup.specs.Lookup.{firstRoom, gathered, lookupIn}
+use Rattle.store.specs.declared.Answer.{Answer}
+use Rattle.store.specs.declared.Answer.the-variants.{Complete, Written, Freed, Refused}
+use Rattle.store.specs.declared.Removal.{Removal}
+use Rattle.store.specs.Answer.{refusal}
+use Rattle.store.specs.Store.{Done, getOf, appendOf, removeOf, collectOf, initialiseOf}
+use Rattle.store.specs.Call.{Call, get, append, remove, collect, initialise, outcome, answerOf, imageAfter}
+use Rattle.pinned.specs.When.{Reads, NotBad, FirstBad, When, Succeeds}
+use Rattle.pinned.specs.Left.{Dead, erasedBy, Collected, leftBy, Appended, Removed}
+use Rattle.pinned.specs.Words.{Passed, Decides, HasRoom, FirstRoom}
+use Rattle.pinned.proofs.Answers.{line-some, line-reads, initialise-line, get-line, refused-when, answered, reason-number, reads-if, get-fine, got-live, collect-is, initialise-left, initialise-anew, succeeds}
+use Rattle.pinned.proofs.Swept.{first-bad}
+use Rattle.pinned.proofs.Lookups.{live-is, bad-is, through-is, room-at, room-nowhere}
+use Rattle.pinned.proofs.Buffers.{refused-buffer}
+use Rattle.pinned.proofs.Written.{append-wrote, remove-wrote}
+use Rattle.pinned.proofs.Collected.{erased-are, collected-at, stands-from, freed-all, erased-once}
+
+-- "Exactly when".
+
+-- A call on any image gives refusal k where the table says so, and only there.
+pub exactly-when : (k : ℕ) (c : Call) (image : List ℕ) (s n : ℕ) → 1 ≤ k → (refusal (answerOf c image s n) ≡ k) ↔ When image s n k c
+exactly-when k c image s n l = (λ e. ⊎-elim (λ z. absurd (omega arith)) (subst (λ (j : ℕ). When image s n j c) e) (reason-number image s n c), answered image s n)
+
+-- Where no line of the table says so, the call gives the one answer that is its own: "Complete with the length", "Written", "S times the regions erased".
+pub succeeds-else : (c : Call) (image : List ℕ) (s n : ℕ) → ((k : ℕ) → When image s n k c → ⊥) → Succeeds c (answerOf c image s n)
+succeeds-else c image s n h = ⊎-elim (succeeds image s n c) (λ w. absurd (h _ w)) (reason-number image s n c)
+
+-- 11 and 12 are the stepped form's: no call in one gives them.
+pub at-most-ten : (c : Call) (image : List ℕ) (s n : ℕ) → refusal (answerOf c image s n) ≤ 10
+at-most-ten c image s n = ⊎-elim (λ z. omega arith) (λ w. line-some w .1) (reason-number image s n c)
+
+-- Initialise refuses by 1 and 2 alone.
+pub initialise-refuses : (key : ℕ) (image : List ℕ) (s n : ℕ) → refusal (answerOf (initialise key) image s n) ≤ 2
+initialise-refuses key image s n = ⊎-elim (λ z. omega arith) initialise-line (reason-number image s n (initialise key))
+
+-- Get never refuses by 3, 5 or 6: "Refusals 4, 7, 8, 9 and 10" of initialise are all that its get can give behind 1 and 2.
+pub get-refuses : (key : ℕ) (buffer image : List ℕ) (s n : ℕ)
+    → (refusal (answerOf (get key buffer) image s n) ≡ 3 → ⊥) × (refusal (answerOf (get key buffer) image s n) ≡ 5 → ⊥) × (refusal (answerOf (get key buffer) image s n) ≡ 6 → ⊥)
+get-refuses key buffer image s n = ⊎-elim (λ z. (λ e. omega arith, λ e. omega arith, λ e. omega arith)) get-line (reason-number image s n (get key buffer))
+
+-- The ends of a lookup that the table names, in the document's words.
+
+-- 4: "no region decides".
+pub no-region-decides : (key : ℕ) (need : Need) (image : List ℕ) (s n : ℕ) → 0 < n
+    → (lookupIn key need s image (probes key n) ≡ Looked.Through (gathered need s image (probes key n))) ↔ ((r : ℕ) → r < n → Passed image s key r)
+no-region-decides key need image s n p =
+    let t = through-is image s key (probes key n) (gathered need s image (probes key n)) in
+    (λ h r l. t .0 h r (members key n r p .0 l), λ k. t .1 (λ r m. k r (members key n r p .1 m)))
+
+-- "Regions in probe order; the first live record of the key [..] answers", and 5: "append meets its key live".
+pub meets-live : (key : ℕ) (need : Need) (image : List ℕ) (s n r : ℕ) (x : Record)
+    → (lookupIn key need s image (probes key n) ≡ Looked.Live r x) ↔ Decides image s key (probes key n) r (Event.Live x)
+meets-live key need image s n r x = live-is image s key (probes key n) (gathered need s image (probes key n)) r x
+
+-- "the first [..] bad place answers": at this place of the image, in a region before which none decides.
+pub meets-bad : (key : ℕ) (need : Need) (image : List ℕ) (s n : ℕ) (f : Fault) (place : ℕ)
+    → (lookupIn key need s image (probes key n) ≡ Looked.Bad f place)
+    ↔ ((r : ℕ) × (o : ℕ) × (r * s + o ≡ place) × Decides image s key (probes key n) r (Event.Bad f o))
+meets-bad key need image s n f place = bad-is image s key (probes key n) (gathered need s image (probes key n)) f place
+
+-- 6: "no region has room".
+pub no-room : (key len : ℕ) (image : List ℕ) (s n : ℕ) → 0 < n
+    → (firstRoom len s image (probes key n) ≡ Room.Nowhere) ↔ ((r o : ℕ) → r < n → HasRoom image s len r o → ⊥)
+no-room key len image s n p =
+    let t = room-nowhere image s len (probes key n) in
+    (λ h r o l. t .0 h r o (members key n r p .0 l), λ k. t .1 (λ r o m. k r o (members key n r p .1 m)))
+
+-- "the first region in probe order with room, meaning o + length is at most S", and whether the record's place there is blank.
+pub first-room : (key len : ℕ) (image : List ℕ) (s n r o : ℕ) (blank : Bool)
+    → (firstRoom len s image (probes key n) ≡ Room.At r o blank)
+    ↔ (FirstRoom image s len (probes key n) r o × (blank ≡ isBlank (take len (drop o (regionOf s image r)))))
+first-room key len image s n r o blank = room-at image s len (probes key n) r o blank
+
+-- What a refusal leaves.
+
+-- "A refusal alters no byte of image [..], but for [..] what collect and initialise did before". Initialise's own refusals come first.
+pub refused-leaves : (c : Call) (image : List ℕ) (s n : ℕ) → 1 ≤ refusal (answerOf c image s n) → imageAfter c image s n ≡ leftBy c image s n
+refused-leaves c image s n l = ap (λ (d : Done). d .image) (refused-when image s n (exactly-when _ c image s n l .0 refl) .done)
+
+-- "A bad place ends the call with its refusal; regions before it are already collected, it and later ones stand."
+pub collect-refused : {f : Fault} (image : List ℕ) (s n : ℕ) → Fits image s n → (b : FirstBad image s n f)
+    → (answerOf collect image s n ≡ Refused (refusalOf f))
+    × ((q : ℕ) → q < b .region → Collected s (regionOf s image q) (regionOf s (imageAfter collect image s n) q))
+    × ((q : ℕ) → b .region ≤ q → regionOf s (imageAfter collect image s n) q ≡ regionOf s image q)
+collect-refused {f} image s n fits b = (
+  ap (λ (d : Done). d .answer) (collect-is image s n fits) ∙ first-bad s image (s * length (erasedBy image s n)) b,
+  λ q l. collected-at image s n fits q (omega (arith, b .inside)) (λ p m. b .first p (omega arith)),
+  stands-from image s n fits b,
+)
+
+-- "A refusal alters no byte of [..] buffer, but for what get copies under 9 and 10".
+pub refused-keeps-buffer : (key : ℕ) (buffer image : List ℕ) (s n : ℕ) → 1 ≤ refusal (answerOf (get key buffer) image s n) → refusal (answerOf (get key buffer) image s n) < 9
+    → getOf image s n key buffer .buffer ≡ buffer
+refused-keeps-buffer key buffer image s n l h = refused-buffer image s n key buffer l h
+
+-- Get.
+
+pub get-alters-nothing : (key : ℕ) (buffer image : List ℕ) (s n : ℕ) → imageAfter (get key buffer) image s n ≡ image
+get-alters-nothing key buffer image s n = refl
+
+-- Get that is not refused has a live record of the key, whose value the buffer takes and whose checksum is right: `get-complete` says the rest.
+pub get-answers : (key : ℕ) (buffer image : List ℕ) (s n : ℕ) → refusal (answerOf (get key buffer) image s n) ≡ 0
+    → Reads image s n (get key buffer)
+    × ((r : ℕ)
+    × (x : Record)
+    × (lookupIn key Need.Nothing s image (probes key n) ≡ Looked.Live r x)
+    × (x .len - 15 ≤ length buffer)
+    × (checkSumFits (bytesIn (regionOf s image r) x) ≡ true))
+get-answers key buffer image s n h = get-fine image s n key buffer h
+
+-- Get of a live record x of region r, of which the value's bytes are `valueIn`. "Value length is record length less 15."
+module _ (key : ℕ) (buffer image : List ℕ) (s n r : ℕ) (x : Record) (reads : Reads image s n (get key buffer)) (live : lookupIn key Need.Nothing s image (probes key n) ≡ Looked.Live r x) where
+  -- "A buffer that is too short is filled with the value's first bytes and BufferTooSmall gives the full value length, checksum not looked at."
+  pub get-short : length buffer < x .len - 15
+      → getOf image s n key buffer ≡ record { answer = Refused (Refusal.BufferTooSmall (x .len - 15)); buffer = take (length buffer) (valueIn (regionOf s image r) x) }
+  get-short l = got-live image s n buffer reads live ∙ rw (lt-ltb (length buffer) (x .len - 15) l)
+
+  -- "Else the value is copied to the buffer's front, bytes after it stay, and then the checksum is compared: Complete with the length,
+  pub get-complete : x .len - 15 ≤ length buffer → checkSumFits (bytesIn (regionOf s image r) x) ≡ true
+      → getOf image s n key buffer ≡ record { answer = Complete (x .len - 15); buffer = valueIn (regionOf s image r) x ++ drop (x .len - 15) buffer }
+  get-complete l e = got-live image s n buffer reads live ∙ rw (le-ltb (length buffer) (x .len - 15) l, e)
+
+  -- or InvalidCheckSum with the copy left there."
+  pub get-wrong-sum : x .len - 15 ≤ length buffer → checkSumFits (bytesIn (regionOf s image r) x) ≡ false
+      → getOf image s n key buffer ≡ record { answer = Refused Refusal.InvalidCheckSum; buffer = valueIn (regionOf s image r) x ++ drop (x .len - 15) buffer }
+  get-wrong-sum l e = got-live image s n buffer reads live ∙ rw (le-ltb (length buffer) (x .len - 15) l, e)
+
+-- Written.
+
+-- Append: Written is answered where the record was written, on a blank place, and nowhere else. A value's bytes are below 256.
+pub append-written : (key : ℕ) (value image : List ℕ) (s n : ℕ) → Bytes value → answerOf (append key value) image s n ≡ Written
+    → Appended image s n key value (imageAfter (append key value) image s n)
+append-written key value image s n v h = append-wrote image s n key value v h
+
+-- "Invalidate. Found as in get; one write of byte 1 with the top bit cleared. Written." "Zeroise. Found as in get; one write over the whole record: header
+-- with the top flag cleared, value and checksum 0. Written."
+pub remove-written : (how : Removal) (key : ℕ) (image : List ℕ) (s n : ℕ) → answerOf (remove how key) image s n ≡ Written
+    → Removed how image s n key (imageAfter (remove how key) image s n)
+remove-written how key image s n h = remove-wrote how image s n key h
+
+-- Collect.
+
+-- "A region with at least one record, none live and no bad place is erased": which regions are, each once.
+pub collect-erases : (image : List ℕ) (s n q : ℕ) → Fits image s n
+    → List·Memᴰ q (erasedBy image s n) ↔ ((q < n) × Dead (regionOf s image q) × ((p : ℕ) → p < q → NotBad (regionOf s image p)))
+collect-erases image s n q f = erased-are image s n f q
+
+pub erases-once : (image : List ℕ) (s n : ℕ) → Distinct (erasedBy image s n)
+erases-once image s n = erased-once image s n
+
+-- "The answer is S times the regions erased": these are the regions that were dead, they are blank now, and the others are as they were.
+pub freed-is-counted : (image : List ℕ) (s n bytes : ℕ) → answerOf collect image s n ≡ Freed bytes
+    → (bytes ≡ s * length (erasedBy image s n))
+    × ((q : ℕ) → List·Memᴰ q (erasedBy image s n) ↔ ((q < n) × Dead (regionOf s image q)))
+    × ((q : ℕ) → q < n → Collected s (regionOf s image q) (regionOf s (imageAfter collect image s n) q))
+freed-is-counted image s n bytes h =
+    let fits = reads-if image s n collect (ap refusal h) .fits in
+    let (count, none) = freed-all image s n fits h in (
+      count,
+      λ q. let e = erased-are image s n fits q in (
+        λ m. let (l, d, c) = e .0 m in (l, d),
+        λ (l, d). e .1 (l, d, λ p m. none p (omega arith)),
+      ),
+      λ q l. collected-at image s n fits q l (λ p m. none p (omega arith)),
+    )
+
+-- Initialise: "Get of the main key into an empty buffer."
+
+-- "Complete: nothing changes."
+pub initialise-complete : (key : ℕ) (image : List ℕ) (s n len : ℕ) → answerOf (get key []) image s n ≡ Complete len
+    → outcome (initialise key) image s n ≡ record { answer = Complete len; image = image }
+initialise-complete key image s n len h = initialise-left image s n key (ap refusal h) ∙ ap (λ (a : Answer). record { answer = a; image = image }) h
+
+-- "Refusals 4, 7, 8, 9 and 10 erase every region and append the main key with an empty value; Written."
+pub initialise-written : (key : ℕ) (image : List ℕ) (s n : ℕ) → 4 ≤ refusal (answerOf (get key []) image s n)
+    → outcome (initialise key) image s n ≡ record { answer = Written; image = written (erased (n * s)) (home key n * s) (recordBytes key []) }
+initialise-written key image s n h =
+    let reads = line-reads (exactly-when _ (get key []) image s n (omega arith) .0 refl) h in
+    initialise-anew image s n key (record { fits = reads .fits; key-good = reads .key-good; not-large = omega arith }) (omega arith)
+
+-- "Show that any pair of results allowed for one input is identical": answer and image at exit, or get's answer and buffer.
+
+-- What a contract allows, that says of each of two results what it is.
+abbrev Allows : {A B : Type 0} → A → B → A → B → Type 0
+Allows answer left a b = (a ≡ answer) × (b ≡ left)
+
+only-one : {A B : Type 0} {answer a a′ : A} {left b b′ : B} → Allows answer left a b → Allows answer left a′ b′ → (a ≡ a′) × (b ≡ b′)
+only-one (p, q) (p′, q′) = (p ∙ sym p′, q ∙ sym q′)
+
+module _ (image : List ℕ) (s n : ℕ) {a a′ : Answer} {b b′ : List ℕ} where
+  pub get-only-one : (key : ℕ) (buffer : List ℕ)
+      → Allows (getOf image s n key buffer .answer) (getOf image s n key buffer .buffer) a b
+      → Allows (getOf image s n key buffer .answer) (getOf image s n key buffer .buffer) a′ b′
+      → (a ≡ a′) × (b ≡ b′)
+  get-only-one key buffer = only-one
+
+  pub append-only-one : (key : ℕ) (value : List ℕ)
+      → Allows (appendOf image s n key value .answer) (appendOf image s n key value .image) a b
+      → Allows (appendOf image s n key value .answer) (appendOf image s n key value .image) a′ b′
+      → (a ≡ a′) × (b ≡ b′)
+  append-only-one key value = only-one
+
+  pub invalidate-only-one : (key : ℕ)
+      → Allows (removeOf Removal.Invalidate image s n key .answer) (removeOf Removal.Invalidate image s n key .image) a b
+      → Allows (removeOf Removal.Invalidate image s n key .answer) (removeOf Removal.Invalidate image s n key .image) a′ b′
+      → (a ≡ a′) × (b ≡ b′)
+  invalidate-only-one key = only-one
+
+  pub zeroise-only-one : (key : ℕ)
+      → Allows (removeOf Removal.Zeroise image s n key .answer) (removeOf Removal.Zeroise image s n key .image) a b
+      → Allows (removeOf Removal.Zeroise image s n key .answer) (removeOf Removal.Zeroise image s n key .image) a′ b′
+      → (a ≡ a′) × (b ≡ b′)
+  zeroise-only-one key = only-one
+
+  pub collect-only-one : Allows (collectOf image s n .answer) (collectOf image s n .image) a b
+      → Allows (collectOf image s n .answer) (collectOf image s n .image) a′ b′
+      → (a ≡ a′) × (b ≡ b′)
+  collect-only-one = only-one
+
+  pub initialise-only-one : (key : ℕ)
+      → Allows (initialiseOf image s n key .answer) (initialiseOf image s n key .image) a b
+      → Allows (initialiseOf image s n key .answer) (initialiseOf image s n key .image) a′ b′
+      → (a ≡ a′) × (b ≡ b′)
+  initialise-only-one key = only-one

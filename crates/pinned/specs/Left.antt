@@ -1,0 +1,92 @@
+-- What a call leaves of the image, where it is refused and where it is not.
+use Prim.Native.Nat.{ℕ, _+_, _*_}
+use mathlib.Core.Path.{_≡_}
+use mathlib.Core.Bool.{true, false, cond}
+use mathlib.Core.List.{List, [], _∷_, _++_, List·Memᴰ}
+use lib.ListN.{take, drop}
+use Rattle.chip.specs.Chip.{written, erased, isBlank}
+use Rattle.chip.specs.Geometry.{geometry, regionOf, eraseRegion}
+use Rattle.probe.specs.Probe.{probes}
+use Rattle.region.specs.declared.Record.{Record}
+use Rattle.region.specs.declared.Stop.{Stop}
+use Rattle.region.specs.Record.{recordLength, recordBytes}
+use Rattle.region.specs.Walk.{live, walkFrom, records, ending, dead}
+use Rattle.lookup.specs.declared.Need.{Need}
+use Rattle.lookup.specs.declared.Room.{Room}
+use Rattle.lookup.specs.declared.Looked.{Looked}
+use Rattle.lookup.specs.Lookup.{firstRoom, lookupIn}
+use Rattle.store.specs.declared.Removal.{Removal}
+use Rattle.store.specs.declared.Verdict.{Verdict}
+use Rattle.store.specs.Store.{removalPlace, removalBytes, verdict, numbers}
+use Rattle.store.specs.Call.{Call, get, append, remove, collect, initialise}
+
+-- What collect erases.
+
+-- "A region with at least one record, none live and no bad place".
+pub record Dead (region : List ℕ) : Type 0 where
+  pub some : records region ≡ [] → ⊥
+  pub none-live : (x : Record) → List·Memᴰ x (records region) → live x ≡ false
+  pub place : ℕ
+  pub no-bad : ending region ≡ Stop.End place
+
+-- region r, before those that are erased after it
+abbrev pub erasedOn : Verdict → ℕ → List ℕ → List ℕ
+erasedOn Verdict.Stands r rest = rest
+erasedOn Verdict.Erase r rest = r ∷ rest
+erasedOn (Verdict.Bad f o) r rest = []
+
+-- The regions of a list that collect erases, in its order, by the image as it is at first: those that are dead, up to the first bad place.
+unfoldable pub erasedIn : ℕ → List ℕ → List ℕ → List ℕ
+erasedIn s image [] = []
+erasedIn s image (r ∷ rs) = erasedOn (verdict (regionOf s image r)) r (erasedIn s image rs)
+
+abbrev pub erasedBy : List ℕ → ℕ → ℕ → List ℕ
+erasedBy image s n = cond (geometry image s n) (erasedIn s image (numbers 0 n)) []
+
+-- the image with the regions of a list erased
+unfoldable pub eraseAll : ℕ → List ℕ → List ℕ → List ℕ
+eraseAll s [] image = image
+eraseAll s (r ∷ rs) image = eraseAll s rs (eraseRegion s r image)
+
+-- A region that collect came by, and what it then is: erased where it was dead, and else as it was.
+pub data Collected (s : ℕ) (region region′ : List ℕ) : Type 0 where
+  erased-one : Dead region → region′ ≡ erased s → Collected s region region′
+  stood : (Dead region → ⊥) → region′ ≡ region → Collected s region region′
+
+-- What a refusal leaves of the image: all of it, but for what collect erased before it.
+abbrev pub leftBy : Call → List ℕ → ℕ → ℕ → List ℕ
+leftBy (get key buffer) image s n = image
+leftBy (append key value) image s n = image
+leftBy (remove how key) image s n = image
+leftBy collect image s n = eraseAll s (erasedBy image s n) image
+leftBy (initialise key) image s n = image
+
+-- What a call that answers Written did.
+
+-- Append: "the first region in probe order with room [..] takes the record at o". One write, over a blank place, which then holds the record;
+-- the other regions stand, and the image is not what it was.
+pub record Appended (image : List ℕ) (s n key : ℕ) (value image′ : List ℕ) : Type 0 where
+  pub region : ℕ
+  pub place : ℕ
+  pub first : firstRoom (recordLength value) s image (probes key n) ≡ Room.At region place true
+  pub one-write : image′ ≡ written image (region * s + place) (recordBytes key value)
+  pub was-blank : isBlank (take (recordLength value) (drop place (regionOf s image region))) ≡ true
+  pub stands-there : take (recordLength value) (drop place (regionOf s image′ region)) ≡ recordBytes key value
+  pub others : (q : ℕ) → (q ≡ region → ⊥) → regionOf s image′ q ≡ regionOf s image q
+  pub changed : image′ ≡ image → ⊥
+
+-- Invalidate and zeroise: "Found as in get". One write, which makes the record dead and leaves the others of its region; the other regions
+-- stand, and the image is not what it was.
+pub record Removed (how : Removal) (image : List ℕ) (s n key : ℕ) (image′ : List ℕ) : Type 0 where
+  pub region : ℕ
+  pub rec : Record
+  pub found : lookupIn key Need.Nothing s image (probes key n) ≡ Looked.Live region rec
+  pub one-write : image′ ≡ written image (region * s + removalPlace how rec) (removalBytes how (regionOf s image region) rec)
+  pub before : List Record
+  pub after : List Record
+  pub was-there : records (regionOf s image region) ≡ before ++ rec ∷ after
+  pub was-live : live rec ≡ true
+  pub of-key : rec .key ≡ key
+  pub now-dead : walkFrom (regionOf s image′ region) 0 ≡ record { recs = before ++ dead rec ∷ after; stop = ending (regionOf s image region) }
+  pub others : (q : ℕ) → (q ≡ region → ⊥) → regionOf s image′ q ≡ regionOf s image q
+  pub changed : image′ ≡ image → ⊥

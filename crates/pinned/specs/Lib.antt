@@ -1,0 +1,3 @@
+pub mod When
+pub mod Left
+pub mod Words

@@ -1,0 +1,35 @@
+-- The ends of a lookup and the first room in the words of document 01, over the regions of a list in its order.
+use Prim.Native.Nat.{ℕ, _+_, _≤_}
+use mathlib.Core.Path.{_≡_}
+use mathlib.Core.List.{List, _∷_, _++_, List·Memᴰ}
+use lib.ListN.{length}
+use Rattle.chip.specs.Geometry.{regionOf}
+use Rattle.region.specs.declared.Stop.{Stop}
+use Rattle.region.specs.declared.Want.{Want}
+use Rattle.region.specs.declared.Event.{Event}
+use Rattle.region.specs.Walk.{ending, eventIn}
+
+-- A region does not decide: the walk for the key comes to the end.
+abbrev pub Passed : List ℕ → ℕ → ℕ → ℕ → Type 0
+Passed image s key q = (o : ℕ) × (eventIn (regionOf s image q) (Want.Key key) ≡ Event.End o)
+
+-- "the first live record of the key or bad place answers": region r does, with this event, and no region before it.
+pub record Decides (image : List ℕ) (s key : ℕ) (order : List ℕ) (r : ℕ) (event : Event) : Type 0 where
+  pub before : List ℕ
+  pub after : List ℕ
+  pub split : order ≡ before ++ r ∷ after
+  pub passed : (q : ℕ) → List·Memᴰ q before → Passed image s key q
+  pub here : eventIn (regionOf s image r) (Want.Key key) ≡ event
+
+-- "with room, meaning o + length is at most S", where the walk of the region ends at o. A region with a bad place has none.
+pub record HasRoom (image : List ℕ) (s len r o : ℕ) : Type 0 where
+  pub ends : ending (regionOf s image r) ≡ Stop.End o
+  pub room : o + len ≤ length (regionOf s image r)
+
+-- "the first region in probe order with room"
+pub record FirstRoom (image : List ℕ) (s len : ℕ) (order : List ℕ) (r o : ℕ) : Type 0 where
+  pub before : List ℕ
+  pub after : List ℕ
+  pub split : order ≡ before ++ r ∷ after
+  pub passed : (q p : ℕ) → List·Memᴰ q before → HasRoom image s len q p → ⊥
+  pub here : HasRoom image s len r o
