@@ -20,7 +20,8 @@ use Rattle.chip.proofs.Runs.{Run, sets-run, written-run, Within, run-wi
 
 -- The tests and the facts say the same.
 
-both : (t u : Bool) → (t && u) ≡ true → (t ≡ true) × (u ≡ true)
+-- both halves of a test
+pub both : (t u : Bool) → (t && u) ≡ true → (t ≡ true) × (u ≡ true)
 both true u e = (refl, e)
 both false u e = (e, cc)
 
