@@ -4,12 +4,12 @@ mod advance;
 mod lend;
 mod rule;
 
-pub use advance::advanced;
-pub use lend::act;
-pub use lend::ask_for;
-pub use rule::call_fits;
+use advance::advanced;
+use lend::act;
+use lend::ask_for;
+use rule::call_fits;
 pub use rule::keeps_rule;
-pub use rule::need_of;
+use rule::need_of;
 ghost use mathlib.Core.Path.{_≡_};
 ghost use lib.ListN.{length};
 ghost use Rattle.steps.specs.Rule.{Kept};

@@ -1,5 +1,6 @@
 // The store in one call, on an image that lies in memory: get, append, invalidate, zeroise, collect and initialise.
-// No call asks anything of its caller: what is not allowed is refused.
+// None of the six asks anything of its caller: what is not allowed is refused. What else is public serves the stepped form, which has the
+// facts at hand that it asks for.
 mod collect;
 mod read;
 mod write;

@@ -1,0 +1,7 @@
+pub mod Keeps
+pub mod Runs
+pub mod Waits
+pub mod Refuses
+pub mod Bounds
+pub mod Theorems
+pub mod Cases

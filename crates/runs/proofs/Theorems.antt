@@ -1,0 +1,154 @@
+-- What a host may rely on that takes an operation one flash service at a time. `drive` (Host.antt) is the host: it holds the image, lends the
+-- same buffers each time, and in each beat is ready or not. `services` (Services.antt) is the list of services of document 01.
+-- The arguments: Runs.antt (the services of each operation), Waits.antt (waiting), Refuses.antt, Bounds.antt, Keeps.antt and After.antt (the rule).
+-- Assumes nothing.
+use Prim.Native.Nat.{ℕ, _+_, _*_, _^_, _≤_, _<_}
+use native.Mathlib.Nat.{le-trans}
+use mathlib.Core.Path.{_≡_, refl, sym, _∙_, ap, subst}
+use mathlib.Core.Bool.{Bool, true, false, cond}
+use mathlib.Core.List.{List, [], _++_}
+use mathlib.Core.Logic.{inl}
+use lib.ListN.{length, take, drop, replicate}
+use Rattle.chip.specs.Chip.{Bytes}
+use Rattle.chip.specs.Geometry.{Fits}
+use Rattle.lookup.specs.declared.Refusal.{Refusal}
+use Rattle.store.specs.declared.Answer.the-variants.{Refused, Complete, Written}
+use Rattle.store.specs.Store.{Got, getOf, appendOf}
+use Rattle.bindings.specs.WellFormed.{WellFormed}
+use Rattle.bindings.specs.Calls.{Typed, imageAfterAll, SparesAll}
+use Rattle.bindings.proofs.Lasting.{all-hold}
+use Rattle.bindings.proofs.Theorems.{stays-well-formed, append-adds}
+use Rattle.bindings.proofs.Theorems as Bindings
+use Rattle.store.specs.Call.{Call, answerOf, imageAfter}
+use Rattle.steps.specs.declared.Phase.{Phase}
+use Rattle.steps.specs.declared.Op.{Op}
+use Rattle.steps.specs.declared.Start.{Start}
+use Rattle.steps.specs.declared.Reply.{Reply}
+use Rattle.steps.specs.declared.Ask.{Ask}
+use Rattle.steps.specs.declared.Stepped.{Stepped}
+use Rattle.steps.specs.Op.{inPhase, getStarted}
+use Rattle.steps.specs.Rule.{rule}
+use Rattle.steps.specs.Step.{askIn, askOf, nextOf, fitsHere, stepped, regionAfter, bufferAfter}
+use Rattle.runs.specs.Host.{Inside, asks, begun, drive, readies, startOf, Lends, lends-get, bufferOf}
+use Rattle.runs.specs.Services.{services, most, Ends}
+use Rattle.steps.proofs.Rules.{kept, is-kept, fits-kept}
+use Rattle.steps.proofs.After.{next-after}
+use Rattle.runs.proofs.Keeps.{inside, start-runs}
+use Rattle.runs.proofs.Runs.{Result}
+use Rattle.runs.proofs.Waits.{run-unwaited, run-ends, run-goes-on}
+use Rattle.runs.proofs.Refuses.{refused-so}
+use Rattle.runs.proofs.Bounds.{bound, most-any}
+
+-- "a lookup N at most, the longest 3N+1": get n, append and the removals n + 1, "collect [..] 2N at most", "initialise [..] 3N+1 at most".
+pub at-most : (c : Call) (image : List ℕ) (s n : ℕ) → length (services c image s n) ≤ most c n
+at-most = bound
+
+pub any-at-most : (c : Call) (image : List ℕ) (s n : ℕ) → length (services c image s n) ≤ 3 * n + 1
+any-at-most c image s n = le-trans (bound c image s n) (most-any c n)
+
+-- A call whose arguments are allowed, as its start says; an image of the chip's size; a region buffer of s bytes with anything in it; append's
+-- value and get's buffer are those of the call. That the image is well-formed, which the demand grants, is not needed.
+module _ (c : Call) (op : Op) (image region value buffer : List ℕ) (s n : ℕ) (starts : startOf c s n ≡ Start.Runs op) (fits : Fits image s n)
+    (long : length region ≡ s) (lends : Lends c value buffer) where
+  -- Demand 3: "an operation taken one flash service at a time, with any number of "not ready" replies between, ends after exactly the services
+  -- listed in 01 [..], with the answer and image of the one-call form".
+  pub one-service-at-a-time : (beats : List Bool) → length (services c image s n) ≤ readies beats → Ends c image s n buffer (drive s beats (begun op image region value buffer))
+  one-service-at-a-time = run-ends c op image region value buffer s n starts fits long lends
+
+  -- "the longest 3N+1"
+  pub ends-in-time : (beats : List Bool) → 3 * n + 1 ≤ readies beats → Ends c image s n buffer (drive s beats (begun op image region value buffer))
+  ends-in-time beats h = one-service-at-a-time beats (le-trans (any-at-most c image s n) h)
+
+  -- "Not ready" replies change nothing: a run is that of a host that is ready as often and never waits.
+  pub waiting-is-nothing : (beats : List Bool) → drive s beats (begun op image region value buffer) ≡ drive s (replicate (readies beats) true) (begun op image region value buffer)
+  waiting-is-nothing = run-unwaited c op image region value buffer s n starts fits long lends
+
+  -- It does not end before: with fewer services done it asks for one, and has done the first ones of the list.
+  pub not-before : (beats : List Bool) → readies beats < length (services c image s n)
+      → (asks (drive s beats (begun op image region value buffer) .host .ask) ≡ true)
+      × (drive s beats (begun op image region value buffer) .did ≡ take (readies beats) (services c image s n))
+  not-before = run-goes-on c op image region value buffer s n starts fits long lends
+
+-- "So a stored record is found within N region reads, into a buffer long enough, until its own key is removed or initialise erases the chip":
+-- for any list of calls after its append, a get of it, taken one service at a time, with any waiting between.
+pub stored-is-found : {s n : ℕ} {image : List ℕ} → WellFormed s n image → (key : ℕ) (value : List ℕ) → key < 2 ^ 64 → Bytes value
+    → appendOf image s n key value .answer ≡ Written
+    → (calls : List Call) → SparesAll s n key (appendOf image s n key value .image) calls
+    → let later = imageAfterAll s n calls (appendOf image s n key value .image) in
+    (buffer region nothing : List ℕ) → length value ≤ length buffer → length region ≡ s
+    → (op : Op) → getStarted s n key (length buffer) ≡ Start.Runs op
+    → (beats : List Bool) → n ≤ readies beats
+    → let run = drive s beats (begun op later region nothing buffer) in
+    (run .host .ask ≡ Ask.Answers (Complete (length value)))
+    × (run .host .buffer ≡ value ++ drop (length value) buffer)
+    × (run .host .image ≡ later)
+    × (run .did ≡ services (Call.get key buffer) later s n)
+    × (length (run .did) ≤ n)
+stored-is-found {s} {n} {image} w key value k v h calls p buffer region nothing l long op starts beats ready =
+    let first = appendOf image s n key value .image in
+    let later = imageAfterAll s n calls first in
+    let bound = append-adds w key value k v h key value .1 (inl (refl, refl)) in
+    let (well, _) = all-hold s n key value calls first (stays-well-formed w (Call.append key value) (Typed.typed-append k v)) bound p in
+    let (found, _) = Bindings.stored-is-found w key value k v h calls p buffer l in
+    let few = at-most (Call.get key buffer) later s n in
+    let ends = one-service-at-a-time (Call.get key buffer) op later region nothing buffer s n starts (well .fits) long lends-get beats (le-trans few ready) in (
+      ends .answer ∙ ap (λ (g : Got). Ask.Answers (g .answer)) found,
+      ends .buffer-is ∙ ap (λ (g : Got). g .buffer) found,
+      ends .image-is,
+      ends .did,
+      subst (λ (asked : List Ask). length asked ≤ n) (sym (ends .did)) few,
+    )
+
+-- A start that refuses: "Order: 1, 2, 3, in the stepped form at the start, which then runs nothing". The one-call form gives the same answer and
+-- changes nothing either.
+pub start-refuses : (c : Call) (image buffer : List ℕ) (s n : ℕ) (w : Refusal) → length image ≡ n * s → startOf c s n ≡ Start.Refused w
+    → (answerOf c image s n ≡ Refused w) × (imageAfter c image s n ≡ image) × (bufferOf c image s n buffer ≡ buffer) × (services c image s n ≡ [])
+start-refuses c image buffer s n w size h =
+    let e = refused-so image s n size w c buffer h in
+    (ap (λ (o : Result). o .answer) e, ap (λ (o : Result). o .image) e, ap (λ (o : Result). o .buffer) e, ap (λ (o : Result). o .log) e)
+
+-- "the written rule which every one handed back by a start or a step keeps"
+pub start-keeps : (c : Call) (s n : ℕ) (op : Op) → startOf c s n ≡ Start.Runs op → rule op ≡ true
+start-keeps c s n op h = is-kept op (start-runs c s n op h .kept)
+
+pub next-keeps : (op : Op) (y : Reply) (region value buffer : List ℕ) → fitsHere op y region value buffer ≡ true → rule (nextOf op y region .op) ≡ true
+next-keeps op y region value buffer h =
+    let (k, long, lent, _) = fits-kept op y (length region) (length value) (length buffer) h in
+    is-kept _ (next-after op y value (length buffer) region k long lent .kept)
+
+pub step-keeps : (op : Op) (y : Reply) (region value buffer : List ℕ) → rule op ≡ true → rule (stepped op y region value buffer .op) ≡ true
+unfolding stepped
+step-keeps op y region value buffer k = go (fitsHere op y region value buffer) refl
+  where
+    go : (t : Bool) → fitsHere op y region value buffer ≡ t
+        → rule (cond {A = Stepped} t (record { op = nextOf op y region .op; ask = askOf (nextOf op y region .op) }) (record { op = op; ask = Ask.Answers (Refused Refusal.BadCall) }) .op) ≡ true
+    go true h = next-keeps op y region value buffer h
+    go false h = k
+
+-- What an operation that keeps the rule asks for lies in the chip, whatever region buffers it was lent.
+pub asks-inside : (op : Op) → rule op ≡ true → Inside (op .s) (op .n) (askOf op)
+asks-inside op k = inside op (kept op k)
+
+-- "BadCall leaves the running operation as it was", and all buffers.
+pub bad-call : (op : Op) (y : Reply) (region value buffer : List ℕ) → fitsHere op y region value buffer ≡ false
+    → (stepped op y region value buffer ≡ record { op = op; ask = Ask.Answers (Refused Refusal.BadCall) })
+    × (regionAfter op y region value buffer ≡ region)
+    × (bufferAfter op y region value buffer ≡ buffer)
+unfolding stepped regionAfter bufferAfter
+bad-call op y region value buffer h = (rw h, rw h, rw h)
+
+-- ""Not ready" repeats the request and alters nothing."
+pub not-ready : (op : Op) (region value buffer : List ℕ) → fitsHere op Reply.NotReady region value buffer ≡ true
+    → (stepped op Reply.NotReady region value buffer ≡ record { op = op; ask = askOf op })
+    × (regionAfter op Reply.NotReady region value buffer ≡ region)
+    × (bufferAfter op Reply.NotReady region value buffer ≡ buffer)
+unfolding stepped regionAfter bufferAfter nextOf
+not-ready op region value buffer h = (rw h, rw h, rw h)
+
+-- "FlashFailed ends the operation." "A refusal alters no byte of image or buffer".
+pub flash-failed : (op : Op) (region value buffer : List ℕ) → fitsHere op Reply.Failed region value buffer ≡ true
+    → (stepped op Reply.Failed region value buffer ≡ record { op = inPhase op (Phase.Ended (Refused Refusal.FlashFailed)); ask = Ask.Answers (Refused Refusal.FlashFailed) })
+    × (regionAfter op Reply.Failed region value buffer ≡ region)
+    × (bufferAfter op Reply.Failed region value buffer ≡ buffer)
+unfolding stepped regionAfter bufferAfter nextOf askIn
+flash-failed op region value buffer h = (rw h, rw h, rw h)

@@ -1,0 +1,133 @@
+-- A host that holds the image and serves a running operation, and a run of an operation against it.
+use Prim.Native.Nat.{ℕ, suc, _+_, _-_, _*_, _≤_, _<_}
+use mathlib.Core.Bool.{Bool, true, false}
+use mathlib.Core.List.{List, [], _∷_}
+use lib.ListN.{length, take, drop}
+use Rattle.chip.specs.Chip.{written}
+use Rattle.chip.specs.Geometry.{regionOf, eraseRegion}
+use Rattle.store.specs.declared.Answer.{Answer}
+use Rattle.store.specs.declared.Removal.{Removal}
+use Rattle.store.specs.Store.{getOf}
+use Rattle.store.specs.Call.{Call, get, append, remove, collect, initialise}
+use Rattle.steps.specs.declared.Op.{Op}
+use Rattle.steps.specs.declared.Start.{Start}
+use Rattle.steps.specs.declared.Reply.{Reply}
+use Rattle.steps.specs.declared.Ask.{Ask}
+use Rattle.steps.specs.Op.{getStarted, appendStarted, removeStarted, collectStarted, initialiseStarted}
+use Rattle.steps.specs.Step.{stepped, regionAfter, bufferAfter}
+
+-- The operation and what it last asked for, the image, and what is lent: the region buffer, the value and get's buffer.
+-- "the host lends the same buffers each time".
+pub record Host : Type 0 where
+  pub op : Op
+  pub ask : Ask
+  pub image : List ℕ
+  pub region : List ℕ
+  pub value : List ℕ
+  pub buffer : List ℕ
+
+-- "read a region into the buffer, write named bytes of the buffer at an image place, or erase a region": what a service leaves of the image
+-- of a chip with regions of s bytes, and of the region buffer. "Only its reads change the region buffer between steps."
+abbrev pub imageServed : ℕ → Ask → List ℕ → List ℕ → List ℕ
+imageServed s (Ask.Read r) region image = image
+imageServed s (Ask.Write a e p) region image = written image p (take (e - a) (drop a region))
+imageServed s (Ask.Erase r) region image = eraseRegion s r image
+imageServed s (Ask.Answers answer) region image = image
+
+abbrev pub regionServed : ℕ → Ask → List ℕ → List ℕ → List ℕ
+regionServed s (Ask.Read r) region image = regionOf s image r
+regionServed s (Ask.Write a e p) region image = region
+regionServed s (Ask.Erase r) region image = region
+regionServed s (Ask.Answers answer) region image = region
+
+-- A request of a chip of n regions of s bytes lies in it: a region that is read or erased is one of the n, and what is written are bytes of the
+-- buffer that go to one region. "Bytes to write lie in the buffer at their own place in the region."
+pub data Inside (s n : ℕ) : Ask → Type 0 where
+  reads : {r : ℕ} → r < n → Inside s n (Ask.Read r)
+  writes : {a e : ℕ} (r : ℕ) → r < n → a ≤ e → e ≤ s → Inside s n (Ask.Write a e (r * s + a))
+  erases : {r : ℕ} → r < n → Inside s n (Ask.Erase r)
+  answers : {answer : Answer} → Inside s n (Ask.Answers answer)
+
+-- is a service asked for?
+abbrev pub asks : Ask → Bool
+asks (Ask.Read r) = true
+asks (Ask.Write a e p) = true
+asks (Ask.Erase r) = true
+asks (Ask.Answers answer) = false
+
+-- a step with a reply: the host lends what it has, and has what the step leaves
+abbrev pub told : Op → Reply → List ℕ → List ℕ → List ℕ → List ℕ → Host
+told op y image region value buffer =
+    record {
+      op = stepped op y region value buffer .op;
+      ask = stepped op y region value buffer .ask;
+      image = image;
+      region = regionAfter op y region value buffer;
+      value = value;
+      buffer = bufferAfter op y region value buffer;
+    }
+
+-- a run begins with a step with "begin"
+abbrev pub begun : Op → List ℕ → List ℕ → List ℕ → List ℕ → Host
+begun op image region value buffer = told op Reply.Begin image region value buffer
+
+abbrev pub waited : Host → Host
+waited h = told (h .op) Reply.NotReady (h .image) (h .region) (h .value) (h .buffer)
+
+-- the service that was asked for, and then a step with "done"
+abbrev pub served : ℕ → Host → Host
+served s h = told (h .op) Reply.Done (imageServed s (h .ask) (h .region) (h .image)) (regionServed s (h .ask) (h .region) (h .image)) (h .value) (h .buffer)
+
+-- where a run stands, and the services that it did
+pub record Run : Type 0 where
+  pub host : Host
+  pub did : List Ask
+
+abbrev pub logged : Ask → Run → Run
+logged ask run = record { host = run .host; did = ask ∷ run .did }
+
+-- one beat: nothing once the operation has answered; else a step with "not ready", or the service and a step with "done"
+abbrev pub beat : Bool → Bool → ℕ → Host → (Host → Run) → Run
+beat false ready s h rest = record { host = h; did = [] }
+beat true false s h rest = rest (waited h)
+beat true true s h rest = logged (h .ask) (rest (served s h))
+
+-- a run: for each beat, whether the host is ready
+unfoldable pub drive : ℕ → List Bool → Host → Run
+drive s [] h = record { host = h; did = [] }
+drive s (ready ∷ beats) h = beat (asks (h .ask)) ready s h (λ (g : Host). drive s beats g)
+
+abbrev pub oneIf : Bool → ℕ → ℕ
+oneIf true n = suc n
+oneIf false n = n
+
+-- in how many beats the host is ready
+unfoldable pub readies : List Bool → ℕ
+readies [] = 0
+readies (ready ∷ beats) = oneIf ready (readies beats)
+
+-- Any call, taken one service at a time.
+
+-- how it is started: with the length of get's buffer, or of append's value
+abbrev pub startOf : Call → ℕ → ℕ → Start
+startOf (get key buffer) s n = getStarted s n key (length buffer)
+startOf (append key value) s n = appendStarted s n key (length value)
+startOf (remove how key) s n = removeStarted how s n key
+startOf collect s n = collectStarted s n
+startOf (initialise key) s n = initialiseStarted s n key
+
+-- What is lent for a call: append's value is its own and so is get's buffer; where a call has none, anything may be lent.
+pub data Lends : Call → List ℕ → List ℕ → Type 0 where
+  lends-get : {key : ℕ} {value buffer : List ℕ} → Lends (get key buffer) value buffer
+  lends-append : {key : ℕ} {value buffer : List ℕ} → Lends (append key value) value buffer
+  lends-remove : {key : ℕ} {how : Removal} {value buffer : List ℕ} → Lends (remove how key) value buffer
+  lends-collect : {value buffer : List ℕ} → Lends collect value buffer
+  lends-initialise : {key : ℕ} {value buffer : List ℕ} → Lends (initialise key) value buffer
+
+-- what the lent buffer then holds: only get changes it
+abbrev pub bufferOf : Call → List ℕ → ℕ → ℕ → List ℕ → List ℕ
+bufferOf (get key own) image s n buffer = getOf image s n key buffer .buffer
+bufferOf (append key value) image s n buffer = buffer
+bufferOf (remove how key) image s n buffer = buffer
+bufferOf collect image s n buffer = buffer
+bufferOf (initialise key) image s n buffer = buffer

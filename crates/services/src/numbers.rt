@@ -1,0 +1,66 @@
+// Requests and answers in numbers, to compare two of them.
+use lookup::Refusal;
+use steps::Ask;
+use store::Answer;
+
+pub struct Numbers {
+    pub kind: usize,
+    pub a: usize,
+    pub b: usize,
+    pub c: usize,
+}
+
+impl Numbers {
+    fn new(kind: usize, a: usize, b: usize, c: usize) -> Numbers {
+        Numbers { kind, a, b, c }
+    }
+
+    pub fn of(ask: Ask) -> Numbers {
+        match ask {
+            Ask::Read(r) => Numbers::new(0, r, 0, 0),
+            Ask::Write(a, e, at) => Numbers::new(1, a, e, at),
+            Ask::Erase(r) => Numbers::new(2, r, 0, 0),
+            Ask::Answers(answer) => Numbers::of_answer(answer),
+        }
+    }
+
+    pub fn of_answer(answer: Answer) -> Numbers {
+        match answer {
+            Answer::Complete(len) => Numbers::new(3, len, 0, 0),
+            Answer::Written => Numbers::new(4, 0, 0, 0),
+            Answer::Freed(bytes) => Numbers::new(5, bytes, 0, 0),
+            Answer::Refused(refusal) => Numbers::new(6, number(refusal), wanted(refusal), 0),
+        }
+    }
+
+    pub fn same(self, other: Numbers) -> bool {
+        self.kind == other.kind && (self.a == other.a && (self.b == other.b && self.c == other.c))
+    }
+}
+
+// A refusal's number.
+pub fn number(refusal: Refusal) -> usize {
+    match refusal {
+        Refusal::BadGeometry => 1,
+        Refusal::BadKey => 2,
+        Refusal::ObjectTooLarge => 3,
+        Refusal::KeyNotFound => 4,
+        Refusal::KeyAlreadyExists => 5,
+        Refusal::FlashFull => 6,
+        Refusal::UnsupportedVersion => 7,
+        Refusal::CorruptData => 8,
+        Refusal::BufferTooSmall(_) => 9,
+        Refusal::InvalidCheckSum => 10,
+        Refusal::BadCall => 11,
+        Refusal::FlashFailed => 12,
+    }
+}
+
+// BufferTooSmall's value. The other refusals have none.
+fn wanted(refusal: Refusal) -> usize {
+    if let Refusal::BufferTooSmall(len) = refusal {
+        len
+    } else {
+        0
+    }
+}
