@@ -7,7 +7,7 @@ use native.Mathlib.Omega.{arith}
 use mathlib.Core.Path.{_≡_, refl, sym, _∙_, ap, subst}
 use mathlib.Core.Bool.{true}
 use mathlib.Core.Logic.{_⊎_, inl, _↔_}
-use mathlib.Core.List.{List, _++_}
+use mathlib.Core.List.{List, _++_, List·Memᴰ}
 use lib.ListN.{length, getD, take, drop}
 use Rattle.chip.specs.Chip.{Bytes, erased}
 use Rattle.chip.specs.Geometry.{Shape, regionOf, eraseRegion}
@@ -27,6 +27,8 @@ use Rattle.store.specs.declared.Removal.{Removal}
 use Rattle.store.specs.Store.{Done, refused, getOf, appendOf, removeBy, removeOf, collectOf, initialiseOf}
 use Rattle.store.specs.Answer.{refusal}
 use Rattle.store.specs.Call.{Call, answerOf, imageAfter}
+use Rattle.pinned.specs.Left.{Dead, erasedBy}
+use Rattle.pinned.proofs.Theorems.{refused-leaves, get-alters-nothing, freed-is-counted}
 use Rattle.bindings.specs.WellFormed.{EndsAt, WellFormed, Bound}
 use Rattle.bindings.specs.Calls.{Typed, imageAfterAll, SparesAll, regionsRead, OnlyCleared}
 use Rattle.bindings.proofs.Images.{blank-not-stored}
@@ -85,6 +87,22 @@ removal-takes {s} {n} {image} w how key h = go (hitOf image s n key) (hitting im
 pub collection-alters-none : {s n : ℕ} {image : List ℕ} → WellFormed s n image
     → ((f : ℕ) × (collectOf image s n .answer ≡ Freed f)) × ((key : ℕ) (value : List ℕ) → Bound s n (collectOf image s n .image) key value ↔ Bound s n image key value)
 collection-alters-none w = let (c, f) = collect-done w in (f, c .same)
+
+-- and its count is S times the regions that it erased: each region that held records, none of them live.
+pub collection-counts : {s n : ℕ} {image : List ℕ} → WellFormed s n image
+    → (collectOf image s n .answer ≡ Freed (s * length (erasedBy image s n))) × ((q : ℕ) → List·Memᴰ q (erasedBy image s n) ↔ ((q < n) × Dead (regionOf s image q)))
+collection-counts {s} {n} {image} w =
+    let ((bytes, e), _) = collection-alters-none w in
+    let (count, which, _) = freed-is-counted image s n bytes e in
+    (e ∙ ap Freed count, which)
+
+-- A refusal alters no binding, and no byte of the image. Get alters none, answered or refused.
+pub refusal-alters-none : {s n : ℕ} {image : List ℕ} → WellFormed s n image → (c : Call) → 1 ≤ refusal (answerOf c image s n) → imageAfter c image s n ≡ image
+refusal-alters-none {s} {n} {image} w (Call.get key buffer) h = get-alters-nothing key buffer image s n
+refusal-alters-none {s} {n} {image} w (Call.append key value) h = refused-leaves (Call.append key value) image s n h
+refusal-alters-none {s} {n} {image} w (Call.remove how key) h = refused-leaves (Call.remove how key) image s n h
+refusal-alters-none {s} {n} {image} w Call.collect h = absurd (let ((bytes, e), _) = collection-alters-none w in let z : refusal (answerOf Call.collect image s n) ≡ 0 = ap refusal e in omega arith)
+refusal-alters-none {s} {n} {image} w (Call.initialise key) h = refused-leaves (Call.initialise key) image s n h
 
 -- Get of a bound key into a buffer long enough: Complete and the value. Into a shorter one: BufferTooSmall and its first bytes.
 -- Of an unbound key: KeyNotFound, and the buffer stays.
