@@ -1,5 +1,6 @@
 // The checksum of a record, CRC-32/CKSUM, a byte at a time by a table of 256 words.
 ghost use mathlib.Core.Path.{_≡_};
+ghost use Prim.Native.Nat.{_<_};
 ghost use mathlib.Core.List.{_++_};
 ghost use Rattle.crc32.specs.Crc.{Table, entry, feed, run, finish, checksum};
 
@@ -47,12 +48,12 @@ fn step(table: &[u32; 256], crc: u32, byte: u8) -> u32
     requires { ⌜ Table (now table) ⌝ }
     ensures { λ r. ⌜ r ≡ feed crc byte ⌝ }
 {
-    table_entry(table, byte ^ (crc >> 24) as u8) ^ (crc << 8)
+    table_entry(table, byte as u32 ^ crc >> 24) ^ (crc << 8)
 }
 
-// The word of one byte value. An index that is a `u8` needs no mask to lie in the table.
-fn table_entry(table: &[u32; 256], index: u8) -> u32
-    requires { ⌜ Table (now table) ⌝ }
+// The word of one byte value. The index stays as wide as the state: to narrow it would cost an instruction for each byte.
+fn table_entry(table: &[u32; 256], index: u32) -> u32
+    requires { ⌜ Table (now table) × (index < 256) ⌝ }
     ensures { λ r. ⌜ r ≡ entry index ⌝ }
 {
     table[index as usize]
