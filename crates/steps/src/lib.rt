@@ -7,7 +7,7 @@ mod rule;
 use advance::advanced;
 use lend::act;
 use lend::ask_for;
-use rule::call_fits;
+pub use rule::call_fits;
 pub use rule::keeps_rule;
 use rule::need_of;
 ghost use mathlib.Core.Path.{_≡_};
@@ -201,15 +201,19 @@ fn next_of(op: Op, reply: Reply, region: &[u8]) -> Next
     requires { ⌜ Kept op × (length (now region) ≡ op .s) ⌝ }
     ensures { λ r. ⌜ r ≡ nextOf op reply (now (region .entry)) ⌝ }
 {
-    match reply {
-        Reply::Begin => advanced(op, region),
-        Reply::Done => advanced(op, region),
-        Reply::NotReady => Next {
+    if let Reply::Begin = reply {
+        return advanced(op, region);
+    }
+    if let Reply::NotReady = reply {
+        return Next {
             op,
             action: Move::Stay,
-        },
-        Reply::Failed => advance::ends_with(op, Answer::Refused(Refusal::FlashFailed)),
+        };
     }
+    let Reply::Done = reply else {
+        return advance::ends_with(op, Answer::Refused(Refusal::FlashFailed));
+    };
+    advanced(op, region)
 }
 
 // One step of a running operation. The host lends a region buffer of s bytes, and append's value or get's buffer, of the length named at
