@@ -1,0 +1,3 @@
+pub mod Called
+pub mod Packs
+pub mod Theorems

@@ -1,0 +1,38 @@
+-- `stilefray::running::pack_start` meets its contract: each arm is the case of the definition.
+-- Assumes nothing.
+use borrow.Author.Needs.{needs}
+use Rattle.stilefray.proofs.running.pack_start.Statement.{statement}
+use Rattle.stilefray.proofs.running.pack_start.Tie as tie
+
+enum-known-start : tie.Need-enum-known-start
+enum-known-start c = search needs
+
+pack-requires : tie.Need-pack-requires
+pack-requires c κs = search needs
+
+enum-known-start-2 : tie.Need-enum-known-start-2
+enum-known-start-2 c = search needs
+
+refusal-number-requires : tie.Need-refusal-number-requires
+refusal-number-requires c κs = search needs
+
+none-requires : tie.Need-none-requires
+none-requires c κs = search needs
+
+returns : tie.Need-returns
+returns c = rw (c .before .before .start .given .1, c .pack .ensures)
+
+returns-2 : tie.Need-returns-2
+returns-2 c = rw (c .before .before .before .start2 .given .1, c .before .refusal-number .ensures, c .none .ensures)
+
+pub pack-start-spec : {M : Type 1} → statement M
+pack-start-spec =
+    tie.close
+    (tie.spec
+    enum-known-start
+    pack-requires
+    enum-known-start-2
+    refusal-number-requires
+    none-requires
+    returns
+    returns-2)

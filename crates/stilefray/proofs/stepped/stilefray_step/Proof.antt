@@ -1,0 +1,116 @@
+-- `stilefray::stepped::stilefray_step` meets its contract: numbers that stand for nothing and calls that do not fit alter nothing, and the others are steps'.
+-- Assumes nothing.
+use mathlib.Core.Path.{_≡_, sym, _∙_, ap}
+use borrow.Author.Tests.{not-true, not-false}
+use denote.Ref.{now}
+use Rattle.stilefray.specs.declared.running.KnownOp.{KnownOp}
+use Rattle.stilefray.specs.declared.running.KnownReply.{KnownReply}
+use Rattle.stilefray.specs.Running.{unpacked, knownReply}
+use Rattle.stilefray.specs.Calls.{packedStep}
+use Rattle.stilefray.proofs.Called.{no-op, no-reply, misfit, fit}
+use borrow.Author.Needs.{needs}
+use Rattle.stilefray.proofs.stepped.stilefray_step.Statement.{statement}
+use Rattle.stilefray.proofs.stepped.stilefray_step.Tie as tie
+
+-- what the numbers stand for
+runs : (c : tie.After-known-told2) → unpacked (c .before .before .before .before .before .before .before .before .before .before .before .args .op) ≡ KnownOp.Known (c .before .before .before .before .before .running .given .0 .0)
+runs c = sym (c .before .before .before .before .before .before .before .unpack .ensures) ∙ c .before .before .before .before .before .running .given .1
+
+said : (c : tie.After-known-told2) → knownReply (c .before .before .before .before .before .before .before .before .before .before .before .args .reply) ≡ KnownReply.Known (c .before .said .given .0 .0)
+said c = sym (c .before .before .before .known-reply .ensures) ∙ c .before .said .given .1
+
+unpack-requires : tie.Need-unpack-requires
+unpack-requires c κs = search needs
+
+enum-known-running : tie.Need-enum-known-running
+enum-known-running c = search needs
+
+enum-told : tie.Need-enum-told
+enum-told c = search needs
+
+bad-call-requires : tie.Need-bad-call-requires
+bad-call-requires c κs = search needs
+
+returns : tie.Need-returns
+returns c =
+    let a = c .before .before .before .before .before .before .before .args in
+    let (t, r, l) = no-op (a .op) (a .reply) (now (a .region)) (now (a .value)) (now (a .buffer)) (sym (c .before .before .before .unpack .ensures) ∙ c .before .enum-told .given .1) in
+    (c .bad-call .ensures ∙ sym t, sym r, sym l)
+
+known-reply-requires : tie.Need-known-reply-requires
+known-reply-requires c κs = search needs
+
+enum-known-said : tie.Need-enum-known-said
+enum-known-said c = search needs
+
+enum-told-2 : tie.Need-enum-told-2
+enum-told-2 c = search needs
+
+bad-call-requires-2 : tie.Need-bad-call-requires-2
+bad-call-requires-2 c κs = search needs
+
+returns-2 : tie.Need-returns-2
+returns-2 c =
+    let a = c .before .before .before .before .before .before .before .before .before .before .before .args in
+    let (t, r, l) = no-reply (a .op) (a .reply) (now (a .region)) (now (a .value)) (now (a .buffer)) (sym (c .before .before .before .known-reply .ensures) ∙ c .before .enum-told2 .given .1) in
+    (c .bad-call2 .ensures ∙ sym t, sym r, sym l)
+
+call-fits-requires : tie.Need-call-fits-requires
+call-fits-requires c κs = search needs
+
+bad-call-requires-3 : tie.Need-bad-call-requires-3
+bad-call-requires-3 c κs = search needs
+
+returns-3 : tie.Need-returns-3
+returns-3 c =
+    let d = c .before .before .before in
+    let a = d .before .before .before .before .before .before .before .before .before .before .before .args in
+    let (t, r, l) = misfit (a .op) (a .reply) (now (a .region)) (now (a .value)) (now (a .buffer)) _ _ (runs d) (said d) (sym (c .before .before .call-fits .ensures) ∙ not-true _ (c .before .if1 .taken)) in
+    (c .bad-call3 .ensures ∙ sym t, sym r, sym l)
+
+step-requires : tie.Need-step-requires
+step-requires c κs = search needs
+
+pack-requires : tie.Need-pack-requires
+pack-requires c κs = search needs
+
+request-numbers-requires : tie.Need-request-numbers-requires
+request-numbers-requires c κs = search needs
+
+same-length : tie.Need-same-length
+same-length c = search needs
+
+same-length-2 : tie.Need-same-length-2
+same-length-2 c = search needs
+
+returns-4 : tie.Need-returns-4
+returns-4 c =
+    let d = c .before .before .before .before .before .before .before .before .before .before .before .before in
+    let a = d .before .before .before .before .before .before .before .before .before .before .before .args in
+    let s = c .before .before .before .before .before .before .before .step .ensures in
+    let (t, r, l) = fit (a .op) (a .reply) (now (a .region)) (now (a .value)) (now (a .buffer)) _ _ (runs d) (said d) (sym (c .before .before .before .before .before .before .before .before .before .before .before .call-fits .ensures) ∙ not-false _ (c .before .before .before .before .before .before .before .before .before .before .if1 .left)) in
+    ((λ i. record { op = c .before .pack .ensures i; request = c .request-numbers .ensures i }) ∙ ap packedStep (s .0) ∙ sym t, s .1 ∙ sym r, s .2 ∙ sym l)
+
+pub stilefray-step-spec : {M : Type 1} → statement M
+stilefray-step-spec =
+    tie.close
+    (tie.spec
+    unpack-requires
+    enum-known-running
+    enum-told
+    bad-call-requires
+    returns
+    known-reply-requires
+    enum-known-said
+    enum-told-2
+    bad-call-requires-2
+    returns-2
+    call-fits-requires
+    bad-call-requires-3
+    returns-3
+    step-requires
+    pack-requires
+    request-numbers-requires
+    same-length
+    same-length-2
+    returns-4)

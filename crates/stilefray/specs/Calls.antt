@@ -1,0 +1,43 @@
+-- One step in numbers: steps' `stepped`, `regionAfter` and `bufferAfter` on what the numbers stand for.
+use Prim.Native.Nat.{ℕ}
+use mathlib.Core.Bool.{Bool, true, false, cond}
+use mathlib.Core.List.{List}
+use Rattle.lookup.specs.declared.Refusal.{Refusal}
+use Rattle.store.specs.declared.Answer.the-variants.{Refused}
+use Rattle.steps.specs.declared.Op.{Op}
+use Rattle.steps.specs.declared.Reply.{Reply}
+use Rattle.steps.specs.declared.Ask.{Ask}
+use Rattle.steps.specs.declared.Stepped.{Stepped}
+use Rattle.steps.specs.Step.{fitsHere, stepped, regionAfter, bufferAfter}
+use Rattle.stilefray.specs.declared.COperation.{COperation}
+use Rattle.stilefray.specs.declared.CStepped.{CStepped}
+use Rattle.stilefray.specs.declared.running.KnownOp.{KnownOp}
+use Rattle.stilefray.specs.declared.running.KnownReply.{KnownReply}
+use Rattle.stilefray.specs.Numbers.{requestNumbers}
+use Rattle.stilefray.specs.Running.{packed, unpacked, knownReply}
+
+-- "BadCall leaves the running operation as it was": all its numbers.
+abbrev pub badCall : COperation → CStepped
+badCall o = record { op = o; request = requestNumbers (Ask.Answers (Refused Refusal.BadCall)) }
+
+abbrev pub packedStep : Stepped → CStepped
+packedStep t = record { op = packed (t .op); request = requestNumbers (t .ask) }
+
+-- Numbers that stand for no running operation or no reply are BadCall, and alter nothing.
+abbrev pub onKnown : {A : Type 0} → A → (Op → Reply → A) → KnownOp → KnownReply → A
+onKnown other runs KnownOp.Unknown y = other
+onKnown other runs (KnownOp.Known op) KnownReply.Unknown = other
+onKnown other runs (KnownOp.Known op) (KnownReply.Known y) = runs op y
+
+unfoldable pub stepNumbers : COperation → ℕ → List ℕ → List ℕ → List ℕ → CStepped
+stepNumbers o reply region value buffer =
+    onKnown (badCall o) (λ op y. cond (fitsHere op y region value buffer) (packedStep (stepped op y region value buffer)) (badCall o))
+    (unpacked o) (knownReply reply)
+
+unfoldable pub stepRegion : COperation → ℕ → List ℕ → List ℕ → List ℕ → List ℕ
+stepRegion o reply region value buffer =
+    onKnown region (λ op y. regionAfter op y region value buffer) (unpacked o) (knownReply reply)
+
+unfoldable pub stepBuffer : COperation → ℕ → List ℕ → List ℕ → List ℕ → List ℕ
+stepBuffer o reply region value buffer =
+    onKnown buffer (λ op y. bufferAfter op y region value buffer) (unpacked o) (knownReply reply)

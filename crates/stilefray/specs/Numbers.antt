@@ -1,0 +1,43 @@
+-- Answers and requests in numbers, as C and Rust see them.
+use Prim.Native.Nat.{ℕ}
+use Rattle.lookup.specs.declared.Refusal.{Refusal}
+use Rattle.lookup.specs.Refusals.{number}
+use Rattle.store.specs.declared.Answer.{Answer}
+use Rattle.store.specs.declared.Answer.the-variants.{Complete, Written, Freed, Refused}
+use Rattle.steps.specs.declared.Ask.{Ask}
+use Rattle.stilefray.specs.declared.CAnswer.{CAnswer}
+use Rattle.stilefray.specs.declared.CRequest.{CRequest}
+
+-- "BufferTooSmall gives the full value length"; no other refusal gives a number.
+abbrev pub refusalValue : Refusal → ℕ
+refusalValue Refusal.BadGeometry = 0
+refusalValue Refusal.BadKey = 0
+refusalValue Refusal.ObjectTooLarge = 0
+refusalValue Refusal.KeyNotFound = 0
+refusalValue Refusal.KeyAlreadyExists = 0
+refusalValue Refusal.FlashFull = 0
+refusalValue Refusal.UnsupportedVersion = 0
+refusalValue Refusal.CorruptData = 0
+refusalValue (Refusal.BufferTooSmall len) = len
+refusalValue Refusal.InvalidCheckSum = 0
+refusalValue Refusal.BadCall = 0
+refusalValue Refusal.FlashFailed = 0
+
+-- An answer: 0 refused, 1 complete, 2 written, 3 freed; the refusal's number, 0 where none; what the answer carries.
+abbrev pub answerNumbers : Answer → CAnswer
+answerNumbers (Complete len) = record { kind = 1; refusal = 0; value = len }
+answerNumbers Written = record { kind = 2; refusal = 0; value = 0 }
+answerNumbers (Freed bytes) = record { kind = 3; refusal = 0; value = bytes }
+answerNumbers (Refused w) = record { kind = 0; refusal = number w; value = refusalValue w }
+
+-- a request that is no answer
+abbrev pub serviceNumbers : ℕ → ℕ → ℕ → ℕ → ℕ → CRequest
+serviceNumbers kind region from to place =
+    record { kind = kind; region = region; from = from; to = to; place = place; answer = record { kind = 0; refusal = 0; value = 0 } }
+
+-- "read a region into the buffer, write named bytes of the buffer at an image place, or erase a region"; 4 where it answers.
+abbrev pub requestNumbers : Ask → CRequest
+requestNumbers (Ask.Read r) = serviceNumbers 1 r 0 0 0
+requestNumbers (Ask.Write from to place) = serviceNumbers 2 0 from to place
+requestNumbers (Ask.Erase r) = serviceNumbers 3 r 0 0 0
+requestNumbers (Ask.Answers answer) = record { kind = 4; region = 0; from = 0; to = 0; place = 0; answer = answerNumbers answer }
