@@ -1,0 +1,197 @@
+//! The library's calls in its own numbers, as `c/stilefray.h` declares them. The rest of the crate gives them names; most users need
+//! nothing from here.
+//!
+//! Every `unsafe` of the crate stands in this file. The functions here are safe because the library asks only that each pointer lead to
+//! as many bytes as its length says and that no two lent parts overlap where one is written, which Rust's slices always keep. It is
+//! proved that it takes any numbers and answers, reads and writes nothing out of bounds, and keeps no pointer.
+
+#[cfg(not(all(target_arch = "x86_64", target_pointer_width = "64")))]
+compile_error!("libstilefray.a is built for x86-64, where a usize has 64 bits");
+
+/// An answer in numbers.
+#[repr(C)]
+#[derive(Clone, Copy, Debug, PartialEq, Eq)]
+pub struct AnswerNumbers {
+    /// 0 refused, 1 complete, 2 written, 3 freed.
+    pub kind: u32,
+    /// The refusal's number, 1 to 12; 0 where nothing is refused.
+    pub refusal: u32,
+    /// Complete: the value's length. Freed: the bytes freed. Refusal 9: the value's full length. Else 0.
+    pub value: usize,
+}
+
+/// A running operation in numbers: what [`Running`](crate::stepped::Running) keeps. Numbers that a job or a phase does not use are 0.
+#[repr(C)]
+#[derive(Clone, Copy, Debug, PartialEq, Eq)]
+pub struct Operation {
+    /// 0 none, 1 get, 2 append, 3 invalidate, 4 zeroise, 5 collect, 6 initialise, 7 initialise that has erased the chip and appends.
+    pub job: u32,
+    /// 0 none, 1 fresh, 2 seek, 3 place, 4 kill, 5 sweep, 6 clear, 7 wipe, 8 ended.
+    pub phase: u32,
+    /// The bytes of a region.
+    pub s: usize,
+    /// How many regions there are.
+    pub n: usize,
+    /// The key; collect, which has none, keeps 1 here.
+    pub key: u64,
+    /// Get: the length of the buffer that is lent. Append: of the value that is lent. Else 0.
+    pub lent: usize,
+    /// Seek: which region of the probe order is being read, counted from 0. Else the number of the region in hand.
+    pub a: usize,
+    /// Seek: the region with room. Place, kill: the record's place in its region. Sweep, clear: the bytes freed before this region.
+    pub b: usize,
+    /// Seek: the place of the room in its region. Kill: the record's length.
+    pub c: usize,
+    /// Kill: the record's key.
+    pub found: u64,
+    /// Seek: 0 no room yet, 1 room that is not blank, 2 blank room.
+    pub tag: u32,
+    /// Kill: the record's flags.
+    pub flags: u8,
+}
+
+/// What a start hands out.
+#[repr(C)]
+#[derive(Clone, Copy, Debug, PartialEq, Eq)]
+pub struct StartNumbers {
+    /// 0: `op` runs. Else the refusal's number, and `op` is all zeros.
+    pub refusal: u32,
+    /// The fresh running operation.
+    pub op: Operation,
+}
+
+/// What a step asks for. Numbers that a request does not use are 0.
+#[repr(C)]
+#[derive(Clone, Copy, Debug, PartialEq, Eq)]
+pub struct RequestNumbers {
+    /// 1 read a region, 2 write, 3 erase a region, 4 answer.
+    pub kind: u32,
+    /// Read, erase: the region's number.
+    pub region: usize,
+    /// Write: the place in the region buffer of the first byte to write.
+    pub from: usize,
+    /// Write: the place in the region buffer after the last byte to write.
+    pub to: usize,
+    /// Write: the place in the image of the first byte to write.
+    pub place: usize,
+    /// Answer: the answer.
+    pub answer: AnswerNumbers,
+}
+
+/// What a step hands back.
+#[repr(C)]
+#[derive(Clone, Copy, Debug, PartialEq, Eq)]
+pub struct SteppedNumbers {
+    /// The operation as it now stands.
+    pub op: Operation,
+    /// What it asks for.
+    pub request: RequestNumbers,
+}
+
+#[rustfmt::skip]
+extern "C" {
+    fn stilefray_get_key(image: *const u8, image_len: usize, s: usize, n: usize, key: u64, buffer: *mut u8, buffer_len: usize)
+        -> AnswerNumbers;
+    fn stilefray_append_key(image: *mut u8, image_len: usize, s: usize, n: usize, key: u64, value: *const u8, value_len: usize)
+        -> AnswerNumbers;
+    fn stilefray_invalidate_key(image: *mut u8, image_len: usize, s: usize, n: usize, key: u64) -> AnswerNumbers;
+    fn stilefray_zeroise_key(image: *mut u8, image_len: usize, s: usize, n: usize, key: u64) -> AnswerNumbers;
+    fn stilefray_garbage_collect(image: *mut u8, image_len: usize, s: usize, n: usize) -> AnswerNumbers;
+    fn stilefray_initialise(image: *mut u8, image_len: usize, s: usize, n: usize, key: u64) -> AnswerNumbers;
+    fn stilefray_checksum(bytes: *const u8, len: usize) -> u32;
+    fn stilefray_start_get(s: usize, n: usize, key: u64, room: usize) -> StartNumbers;
+    fn stilefray_start_append(s: usize, n: usize, key: u64, length: usize) -> StartNumbers;
+    fn stilefray_start_invalidate(s: usize, n: usize, key: u64) -> StartNumbers;
+    fn stilefray_start_zeroise(s: usize, n: usize, key: u64) -> StartNumbers;
+    fn stilefray_start_collect(s: usize, n: usize) -> StartNumbers;
+    fn stilefray_start_initialise(s: usize, n: usize, key: u64) -> StartNumbers;
+    fn stilefray_step(op: Operation, reply: u32, region: *mut u8, region_len: usize, value: *const u8, value_len: usize,
+                      buffer: *mut u8, buffer_len: usize) -> SteppedNumbers;
+}
+
+/// `stilefray_get_key`.
+pub fn get_key(image: &[u8], s: usize, n: usize, key: u64, buffer: &mut [u8]) -> AnswerNumbers {
+    // SAFETY: both slices are valid for their lengths, and a `&mut` overlaps nothing.
+    unsafe { stilefray_get_key(image.as_ptr(), image.len(), s, n, key, buffer.as_mut_ptr(), buffer.len()) }
+}
+
+/// `stilefray_append_key`.
+pub fn append_key(image: &mut [u8], s: usize, n: usize, key: u64, value: &[u8]) -> AnswerNumbers {
+    // SAFETY: both slices are valid for their lengths, and a `&mut` overlaps nothing.
+    unsafe { stilefray_append_key(image.as_mut_ptr(), image.len(), s, n, key, value.as_ptr(), value.len()) }
+}
+
+/// `stilefray_invalidate_key`.
+pub fn invalidate_key(image: &mut [u8], s: usize, n: usize, key: u64) -> AnswerNumbers {
+    // SAFETY: the slice is valid for its length, and nothing else is lent.
+    unsafe { stilefray_invalidate_key(image.as_mut_ptr(), image.len(), s, n, key) }
+}
+
+/// `stilefray_zeroise_key`.
+pub fn zeroise_key(image: &mut [u8], s: usize, n: usize, key: u64) -> AnswerNumbers {
+    // SAFETY: the slice is valid for its length, and nothing else is lent.
+    unsafe { stilefray_zeroise_key(image.as_mut_ptr(), image.len(), s, n, key) }
+}
+
+/// `stilefray_garbage_collect`.
+pub fn garbage_collect(image: &mut [u8], s: usize, n: usize) -> AnswerNumbers {
+    // SAFETY: the slice is valid for its length, and nothing else is lent.
+    unsafe { stilefray_garbage_collect(image.as_mut_ptr(), image.len(), s, n) }
+}
+
+/// `stilefray_initialise`.
+pub fn initialise(image: &mut [u8], s: usize, n: usize, key: u64) -> AnswerNumbers {
+    // SAFETY: the slice is valid for its length, and nothing else is lent.
+    unsafe { stilefray_initialise(image.as_mut_ptr(), image.len(), s, n, key) }
+}
+
+/// `stilefray_checksum`.
+pub fn checksum(bytes: &[u8]) -> u32 {
+    // SAFETY: the slice is valid for its length, and nothing else is lent.
+    unsafe { stilefray_checksum(bytes.as_ptr(), bytes.len()) }
+}
+
+/// `stilefray_start_get`.
+pub fn start_get(s: usize, n: usize, key: u64, room: usize) -> StartNumbers {
+    // SAFETY: numbers alone are passed, and any numbers are answered.
+    unsafe { stilefray_start_get(s, n, key, room) }
+}
+
+/// `stilefray_start_append`.
+pub fn start_append(s: usize, n: usize, key: u64, length: usize) -> StartNumbers {
+    // SAFETY: numbers alone are passed, and any numbers are answered.
+    unsafe { stilefray_start_append(s, n, key, length) }
+}
+
+/// `stilefray_start_invalidate`.
+pub fn start_invalidate(s: usize, n: usize, key: u64) -> StartNumbers {
+    // SAFETY: numbers alone are passed, and any numbers are answered.
+    unsafe { stilefray_start_invalidate(s, n, key) }
+}
+
+/// `stilefray_start_zeroise`.
+pub fn start_zeroise(s: usize, n: usize, key: u64) -> StartNumbers {
+    // SAFETY: numbers alone are passed, and any numbers are answered.
+    unsafe { stilefray_start_zeroise(s, n, key) }
+}
+
+/// `stilefray_start_collect`.
+pub fn start_collect(s: usize, n: usize) -> StartNumbers {
+    // SAFETY: numbers alone are passed, and any numbers are answered.
+    unsafe { stilefray_start_collect(s, n) }
+}
+
+/// `stilefray_start_initialise`.
+pub fn start_initialise(s: usize, n: usize, key: u64) -> StartNumbers {
+    // SAFETY: numbers alone are passed, and any numbers are answered.
+    unsafe { stilefray_start_initialise(s, n, key) }
+}
+
+/// `stilefray_step`. An operation that no start or step handed out, and a reply that is not 0 to 3, are answered too: BadCall, or the
+/// request of the running operation that the numbers stand for.
+pub fn step(op: Operation, reply: u32, region: &mut [u8], value: &[u8], buffer: &mut [u8]) -> SteppedNumbers {
+    let (region_at, region_len) = (region.as_mut_ptr(), region.len());
+    let (buffer_at, buffer_len) = (buffer.as_mut_ptr(), buffer.len());
+    // SAFETY: the three slices are valid for their lengths, and no `&mut` overlaps another slice.
+    unsafe { stilefray_step(op, reply, region_at, region_len, value.as_ptr(), value.len(), buffer_at, buffer_len) }
+}

@@ -1,0 +1,88 @@
+//! The one-call form: the whole chip lies in memory as an image of `n` regions of `s` bytes.
+//!
+//! `s` is 64 to 4,096, `n` is 1 to 64 and the image is exactly `n * s` bytes, or the call is refused as
+//! [`BadGeometry`](Refusal::BadGeometry). A blank chip is an image whose every byte is 255. The calls alter the image as a chip would
+//! be altered: a write only clears bits, and an erase makes every byte of one region 255.
+//!
+//! ```
+//! use stilefray::{image, Refusal};
+//!
+//! let mut chip = [255u8; 256]; // 4 regions of 64 bytes
+//! image::append_key(&mut chip, 64, 4, 1, &[7, 8, 9])?;
+//! assert_eq!(chip[64..78], [1, 0x80, 18, 0, 0, 0, 0, 0, 0, 0, 1, 7, 8, 9]);
+//!
+//! let mut buffer = [0u8; 8];
+//! assert_eq!(image::get_key(&chip, 64, 4, 1, &mut buffer), Ok(3));
+//! assert_eq!(buffer, [7, 8, 9, 0, 0, 0, 0, 0]);
+//!
+//! image::invalidate_key(&mut chip, 64, 4, 1)?;
+//! assert_eq!(image::get_key(&chip, 64, 4, 1, &mut buffer), Err(Refusal::KeyNotFound));
+//! assert_eq!(image::garbage_collect(&mut chip, 64, 4), Ok(64));
+//! assert_eq!(chip, [255u8; 256]);
+//! # Ok::<(), Refusal>(())
+//! ```
+use crate::ffi;
+use crate::refusal::{Answer, Refusal, Success};
+
+/// The value of a key, copied to the front of `buffer`; its length is the answer, and the buffer's bytes after it stay.
+///
+/// Refused in this order: BadGeometry, BadKey; then the first region in the key's probe order that decides says UnsupportedVersion,
+/// CorruptData, BufferTooSmall or InvalidCheckSum, and where none decides it is KeyNotFound. BufferTooSmall gives the value's full
+/// length and leaves the buffer full of the value's first bytes; InvalidCheckSum leaves the value in the buffer. The other refusals
+/// leave the buffer as it was.
+pub fn get_key(image: &[u8], s: usize, n: usize, key: u64, buffer: &mut [u8]) -> Result<usize, Refusal> {
+    answer_of(ffi::get_key(image, s, n, key, buffer)).map(Success::value)
+}
+
+/// Stores a value of at most 4,079 bytes under a key that has no live record: one write, in the first region of the key's probe order
+/// that has room.
+///
+/// Refused in this order: BadGeometry, BadKey, ObjectTooLarge; then, as the regions are walked in probe order, UnsupportedVersion,
+/// CorruptData or KeyAlreadyExists by the first that decides; then FlashFull, or CorruptData where the place is not blank. A refusal
+/// leaves the image as it was.
+pub fn append_key(image: &mut [u8], s: usize, n: usize, key: u64, value: &[u8]) -> Result<(), Refusal> {
+    answer_of(ffi::append_key(image, s, n, key, value)).map(drop)
+}
+
+/// Makes the key's record dead: one write of one byte, its second, with the top bit cleared. The value stays readable on the chip
+/// until its region is collected; [`zeroise_key`] does not leave it there.
+///
+/// Refused in this order: BadGeometry, BadKey; then UnsupportedVersion or CorruptData by the first region that decides, or
+/// KeyNotFound. The checksum is not looked at. A refusal leaves the image as it was.
+pub fn invalidate_key(image: &mut [u8], s: usize, n: usize, key: u64) -> Result<(), Refusal> {
+    answer_of(ffi::invalidate_key(image, s, n, key)).map(drop)
+}
+
+/// Makes the key's record dead and its value and checksum zeros: one write over the whole record, which keeps its length and key.
+///
+/// Refused as [`invalidate_key`] is.
+pub fn zeroise_key(image: &mut [u8], s: usize, n: usize, key: u64) -> Result<(), Refusal> {
+    answer_of(ffi::zeroise_key(image, s, n, key)).map(drop)
+}
+
+/// Erases each region that has records, all of them dead. The answer is the bytes freed, `s` for each region erased.
+///
+/// Refused: BadGeometry; then UnsupportedVersion or CorruptData where a region is bad. The regions before it are already collected
+/// then, it and the later ones stand.
+pub fn garbage_collect(image: &mut [u8], s: usize, n: usize) -> Result<usize, Refusal> {
+    answer_of(ffi::garbage_collect(image, s, n)).map(Success::value)
+}
+
+/// Sees to it that the chip is one of this store's: `key` is the main key.
+///
+/// `Complete(0)`: the main key was there with an empty value, nothing changed. `Written`: it was not, or its record or one before it
+/// was bad; every region was erased and the main key appended with an empty value. Refused: BadGeometry, BadKey, which leave the image
+/// as it was.
+pub fn initialise(image: &mut [u8], s: usize, n: usize, key: u64) -> Answer {
+    answer_of(ffi::initialise(image, s, n, key))
+}
+
+/// An answer by its numbers. The library gives no kind but 0 to 3 (that is proved of it); any other is taken for a refusal.
+pub(crate) fn answer_of(numbers: ffi::AnswerNumbers) -> Answer {
+    match numbers.kind {
+        1 => Ok(Success::Complete(numbers.value)),
+        2 => Ok(Success::Written),
+        3 => Ok(Success::Freed(numbers.value)),
+        _ => Err(Refusal::of(numbers.refusal, numbers.value)),
+    }
+}

@@ -1,0 +1,57 @@
+//! Stilefray: a key-value store for raw flash, proved. This crate is the safe way in from Rust; the store itself is a static library
+//! written in Rattle, every function of which is proved to meet its contract, to do nothing undefined and to end.
+//!
+//! Small values, up to 4,079 bytes, are kept under 64-bit keys in the record format of the crate tickv 2.0.0. There are three ways in:
+//!
+//! - [`Store`]: over your [`Flash`], one call for an operation, or one service at a time.
+//! - [`stepped`]: the operations as plain data, one flash service at a time, with no flash and no buffer of their own.
+//! - [`image`](mod@image): one call for an operation, on an image of the chip in memory.
+//!
+//! Every call takes whatever it is given, and answers; what it refuses it refuses by one of twelve [`Refusal`]s. The crate allocates
+//! nothing, has nothing in it that panics, and needs no `std`.
+//!
+//! # Coming from tickv
+//!
+//! | tickv 2.0.0 | here |
+//! |---|---|
+//! | `TicKV::new(controller, &mut [u8; S], flash_size)` | [`Store::new`]`(flash, &mut [u8], regions)`, where `regions` is `flash_size / S` |
+//! | `FlashController<S>`, with `&self` | [`Flash`], with `&mut self` |
+//! | `ErrorCode::ReadNotReady(_)`, `WriteNotReady(_)`, `EraseNotReady(_)` | [`NotDone::NotReady`]; the call is then repeated, a write and an erase too |
+//! | `ErrorCode::ReadFail`, `WriteFail`, `EraseFail` | [`NotDone::Failed`], and [`Refusal::FlashFailed`] |
+//! | `initialise(hash)` | [`Store::initialise`]: `Complete(0)` or `Written`, as there |
+//! | `append_key(hash, &value)` | [`Store::append_key`]: `Ok(())` is its `Written` |
+//! | `get_key(hash, &mut buf)`, `Ok((Complete, len))` | [`Store::get_key`], `Ok(len)` |
+//! | `invalidate_key(hash)`, `zeroise_key(hash)`, `garbage_collect()` | the same names |
+//! | `AsyncTicKV`, `continue_operation()`, `SuccessCode::Queued` | [`stepped::Running`] and [`Store::serve`]: [`Served::More`] and [`Served::NotReady`] |
+//! | `ErrorCode::RegionFull` | does not come |
+//! | other `ErrorCode`s | the [`Refusal`] of the same name |
+//!
+//! The record format is tickv's, so a chip that tickv wrote is read as it stands, if its host was little-endian and the chip has 1 to 64
+//! regions of 64 to 4,096 bytes. The way back is not as smooth: tickv does not find a record that lies beyond a full region. Where tickv
+//! loses a record, asserts or loops for ever, this store does not; docs/DIFFERENCES.md of the repository lists each case. Names are not
+//! hashed: pass the 64-bit hash, which must not be 0 or 2^64 - 1.
+#![no_std]
+#![deny(missing_docs)]
+#![deny(unsafe_code)]
+#![deny(unsafe_op_in_unsafe_fn)]
+
+#[allow(unsafe_code)] // the one module that needs it
+pub mod ffi;
+mod flash;
+pub mod image;
+mod refusal;
+pub mod stepped;
+mod store;
+
+pub use flash::{Flash, NotDone, Served};
+pub use refusal::{Answer, Refusal, Success};
+pub use store::Store;
+
+/// The checksum that a record carries over its header and value, here of any bytes: CRC-32/CKSUM, tickv's.
+///
+/// ```
+/// assert_eq!(stilefray::checksum(b"123456789"), 0x765e_7680); // the published vector
+/// ```
+pub fn checksum(bytes: &[u8]) -> u32 {
+    ffi::checksum(bytes)
+}

@@ -1,0 +1,179 @@
+//! A flash in memory, and helpers that several tests use.
+#![allow(dead_code)]
+use stilefray::stepped::{Reply, Request, Running};
+use stilefray::{image, Answer, Flash, NotDone};
+
+/// The afternoons' chip.
+pub const S: usize = 64;
+pub const N: usize = 4;
+
+pub fn blank() -> Vec<u8> {
+    vec![255; S * N]
+}
+
+/// A service that was done.
+#[derive(Clone, Debug, PartialEq, Eq)]
+pub enum Did {
+    Read(usize),
+    Write(usize, Vec<u8>),
+    Erase(usize),
+}
+
+/// A flash in memory: it lists what was done, makes each service wait, and fails where it is told to.
+#[derive(Clone, Debug)]
+pub struct Chip {
+    pub s: usize,
+    pub image: Vec<u8>,
+    pub did: Vec<Did>,
+    /// How often each service says NotReady before it is done.
+    pub waits: usize,
+    /// The service, counted from 0, that fails.
+    pub fails_at: Option<usize>,
+    /// How often NotReady was said in all.
+    pub waited: usize,
+    pending: Option<(Did, usize)>,
+}
+
+impl Chip {
+    pub fn new(s: usize, image: Vec<u8>) -> Chip {
+        Chip { s, image, did: Vec::new(), waits: 0, fails_at: None, waited: 0, pending: None }
+    }
+
+    /// A service is asked for; one that was not ready must be asked for again unchanged.
+    fn asked(&mut self, service: Did) -> Result<(), NotDone> {
+        let (pending, waited) = self.pending.take().unwrap_or((service.clone(), 0));
+        assert_eq!(pending, service, "another service was asked for while one was not ready");
+        if waited < self.waits {
+            self.waited += 1;
+            self.pending = Some((service, waited + 1));
+            return Err(NotDone::NotReady);
+        }
+        if self.fails_at == Some(self.did.len()) {
+            return Err(NotDone::Failed);
+        }
+        self.did.push(service);
+        Ok(())
+    }
+}
+
+impl Flash for Chip {
+    fn read_region(&mut self, region: usize, buffer: &mut [u8]) -> Result<(), NotDone> {
+        self.asked(Did::Read(region))?;
+        buffer.copy_from_slice(&self.image[region * self.s..(region + 1) * self.s]);
+        Ok(())
+    }
+
+    fn write(&mut self, place: usize, bytes: &[u8]) -> Result<(), NotDone> {
+        self.asked(Did::Write(place, bytes.to_vec()))?;
+        assert!(!bytes.is_empty() && place / self.s == (place + bytes.len() - 1) / self.s, "a write within one region");
+        for (old, new) in self.image[place..place + bytes.len()].iter_mut().zip(bytes) {
+            *old &= new;
+        }
+        Ok(())
+    }
+
+    fn erase_region(&mut self, region: usize) -> Result<(), NotDone> {
+        self.asked(Did::Erase(region))?;
+        self.image[region * self.s..(region + 1) * self.s].fill(255);
+        Ok(())
+    }
+}
+
+/// A call of any of the six operations.
+#[derive(Clone, Debug)]
+pub enum Call {
+    Get(u64, usize),
+    Append(u64, Vec<u8>),
+    Invalidate(u64),
+    Zeroise(u64),
+    Collect,
+    Initialise(u64),
+}
+
+/// What a call leaves.
+#[derive(Clone, Debug, PartialEq, Eq)]
+pub struct Left {
+    pub answer: Answer,
+    pub image: Vec<u8>,
+    pub buffer: Vec<u8>,
+}
+
+impl Call {
+    pub fn start(&self, s: usize, n: usize) -> Result<Running, stilefray::Refusal> {
+        match self {
+            Call::Get(key, room) => Running::get_key(s, n, *key, *room),
+            Call::Append(key, value) => Running::append_key(s, n, *key, value.len()),
+            Call::Invalidate(key) => Running::invalidate_key(s, n, *key),
+            Call::Zeroise(key) => Running::zeroise_key(s, n, *key),
+            Call::Collect => Running::garbage_collect(s, n),
+            Call::Initialise(key) => Running::initialise(s, n, *key),
+        }
+    }
+
+    pub fn value(&self) -> &[u8] {
+        match self {
+            Call::Append(_, value) => value,
+            _ => &[],
+        }
+    }
+
+    /// Get's buffer, of a byte that no test stores.
+    pub fn buffer(&self) -> Vec<u8> {
+        match self {
+            Call::Get(_, room) => vec![0xEE; *room],
+            _ => Vec::new(),
+        }
+    }
+
+    /// The call in the one-call form, in its numbers.
+    pub fn at_once(&self, image: &[u8], s: usize, n: usize) -> Left {
+        use stilefray::Success::{Complete, Freed, Written};
+        let (mut image, mut buffer) = (image.to_vec(), self.buffer());
+        let answer = match self {
+            Call::Get(key, _) => image::get_key(&image, s, n, *key, &mut buffer).map(Complete),
+            Call::Append(key, value) => image::append_key(&mut image, s, n, *key, value).map(|()| Written),
+            Call::Invalidate(key) => image::invalidate_key(&mut image, s, n, *key).map(|()| Written),
+            Call::Zeroise(key) => image::zeroise_key(&mut image, s, n, *key).map(|()| Written),
+            Call::Collect => image::garbage_collect(&mut image, s, n).map(Freed),
+            Call::Initialise(key) => image::initialise(&mut image, s, n, *key),
+        };
+        Left { answer, image, buffer }
+    }
+
+    /// The call one step at a time, with each service done at once.
+    pub fn by_steps(&self, image: &[u8], s: usize, n: usize) -> (Left, Vec<Did>) {
+        let mut chip = Chip::new(s, image.to_vec());
+        let (mut region, mut buffer) = (vec![0xDD; s], self.buffer());
+        let mut running = match self.start(s, n) {
+            Ok(running) => running,
+            Err(refusal) => return (Left { answer: Err(refusal), image: chip.image, buffer }, chip.did),
+        };
+        let mut request = running.step(Reply::Begin, &mut region, self.value(), &mut buffer);
+        loop {
+            let done = match request {
+                Request::Read { region: r } => chip.read_region(r, &mut region),
+                Request::Write { from, to, place } => chip.write(place, &region[from..to]),
+                Request::Erase { region: r } => chip.erase_region(r),
+                Request::Answer(answer) => return (Left { answer, image: chip.image, buffer }, chip.did),
+            };
+            assert_eq!(done, Ok(()));
+            request = running.step(Reply::Done, &mut region, self.value(), &mut buffer);
+        }
+    }
+}
+
+/// Numbers without end, the same at every run (splitmix64).
+pub struct Numbers(pub u64);
+
+impl Numbers {
+    pub fn next(&mut self) -> u64 {
+        self.0 = self.0.wrapping_add(0x9E37_79B9_7F4A_7C15);
+        let a = (self.0 ^ (self.0 >> 30)).wrapping_mul(0xBF58_476D_1CE4_E5B9);
+        let b = (a ^ (a >> 27)).wrapping_mul(0x94D0_49BB_1331_11EB);
+        b ^ (b >> 31)
+    }
+
+    pub fn below(&mut self, limit: usize) -> usize {
+        (self.next() % limit as u64) as usize
+    }
+}

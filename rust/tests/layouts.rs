@@ -1,0 +1,64 @@
+//! The layout of each struct that crosses over, against the numbers that c/test.c asserts too.
+use std::mem::{align_of, offset_of, size_of};
+use stilefray::ffi::{AnswerNumbers, Operation, RequestNumbers, StartNumbers, SteppedNumbers};
+
+fn width<T, F>(_: fn(&T) -> &F) -> usize {
+    size_of::<F>()
+}
+
+/// A field's place and its width: padding would hide a width that is wrong.
+macro_rules! lies {
+    ($type:ty, $field:ident, $at:literal, $width:literal) => {
+        assert_eq!((offset_of!($type, $field), width(|it: &$type| &it.$field)), ($at, $width), stringify!($field));
+    };
+}
+
+#[test]
+fn an_answer_lies_as_in_c() {
+    assert_eq!((size_of::<AnswerNumbers>(), align_of::<AnswerNumbers>()), (16, 8));
+    lies!(AnswerNumbers, kind, 0, 4);
+    lies!(AnswerNumbers, refusal, 4, 4);
+    lies!(AnswerNumbers, value, 8, 8);
+}
+
+#[test]
+fn an_operation_lies_as_in_c() {
+    assert_eq!((size_of::<Operation>(), align_of::<Operation>()), (80, 8));
+    lies!(Operation, job, 0, 4);
+    lies!(Operation, phase, 4, 4);
+    lies!(Operation, s, 8, 8);
+    lies!(Operation, n, 16, 8);
+    lies!(Operation, key, 24, 8);
+    lies!(Operation, lent, 32, 8);
+    lies!(Operation, a, 40, 8);
+    lies!(Operation, b, 48, 8);
+    lies!(Operation, c, 56, 8);
+    lies!(Operation, found, 64, 8);
+    lies!(Operation, tag, 72, 4);
+    lies!(Operation, flags, 76, 1);
+}
+
+#[test]
+fn a_start_lies_as_in_c() {
+    assert_eq!((size_of::<StartNumbers>(), align_of::<StartNumbers>()), (88, 8));
+    lies!(StartNumbers, refusal, 0, 4);
+    lies!(StartNumbers, op, 8, 80);
+}
+
+#[test]
+fn a_request_lies_as_in_c() {
+    assert_eq!((size_of::<RequestNumbers>(), align_of::<RequestNumbers>()), (56, 8));
+    lies!(RequestNumbers, kind, 0, 4);
+    lies!(RequestNumbers, region, 8, 8);
+    lies!(RequestNumbers, from, 16, 8);
+    lies!(RequestNumbers, to, 24, 8);
+    lies!(RequestNumbers, place, 32, 8);
+    lies!(RequestNumbers, answer, 40, 16);
+}
+
+#[test]
+fn a_stepped_lies_as_in_c() {
+    assert_eq!((size_of::<SteppedNumbers>(), align_of::<SteppedNumbers>()), (136, 8));
+    lies!(SteppedNumbers, op, 0, 80);
+    lies!(SteppedNumbers, request, 80, 56);
+}
