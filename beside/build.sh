@@ -7,10 +7,7 @@ out=target/beside
 command -v rustc >/dev/null || { echo "no rustc here: nothing was run"; exit 3; }
 [ -f "$crate_source/src/lib.rs" ] || { echo "no source of tickv at $crate_source (TICKV_SRC): nothing was run"; exit 3; }
 
-library=target/staticlib/libstilefray.a
-if [ ! -f "$library" ] || [ -n "$(find crates -type f -newer "$library" -print -quit)" ]; then
-    rt staticlib stilefray >&2 || exit 1
-fi
+bash scripts/archive || exit 1
 
 compile() {
     rustc --edition 2021 -O "$@" || exit 1

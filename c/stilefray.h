@@ -236,8 +236,8 @@ stilefray_start stilefray_start_initialise(size_t s, size_t n, uint64_t key);
  * BAD_CALL: region_len is not s; append's value_len or get's buffer_len is not the length named at the start; BEGIN at any but the first
  * step, or another reply at the first; a reply that is none of the four; a step after the end; or an op that is no running operation, or
  * breaks the rule which every one handed back by a start or a step keeps (s, n, key and length allowed, the phase one of the job's,
- * every region below n and every place to write within a region, numbers that are not used 0). It hands op back as it was and alters no buffer, so the host may put
- * its mistake right and step again. It is tried first.
+ * every region below n, every place to write within a region, and 0 in each number that is not used). It hands op back as it was and
+ * alters no buffer, so the host may put its mistake right and step again. It is tried first.
  *
  * FLASH_FAILED: the reply was FAILED. The operation has ended; services done before stay done, and no buffer is altered.
  */

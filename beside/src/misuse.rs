@@ -91,16 +91,13 @@ fn no_reply(running: Running, lent: &Lent) -> Result<u64, String> {
     Ok(3)
 }
 
-/// Numbers that no start and no step hands out. A number that the phase does
-/// not use is no part of the rule, so only used ones are broken.
+/// Numbers that no start and no step hands out: out of bounds where the phase
+/// uses them, and not 0 where it does not.
 fn broken(rng: &mut Prng, mut op: Operation) -> Operation {
-    let seeks = op.phase == 2;
-    let has_region = (2..=7).contains(&op.phase);
-    let has_key = op.job != 5;
     match rng.below(7) {
-        0 if seeks => op.tag = rng.pick(&[3, 4, 77, u32::MAX]),
-        1 if has_region => op.a = rng.pick(&[op.n, 64, usize::MAX]),
-        2 if has_key => op.key = rng.pick(&[0, u64::MAX]),
+        0 => op.tag = rng.pick(&[3, 4, 77, u32::MAX]),
+        1 => op.a = rng.pick(&[op.n, 64, usize::MAX]),
+        2 => op.key = rng.pick(&[0, u64::MAX]),
         3 => op.s = rng.pick(&[0, 63, 4_097, usize::MAX]),
         4 => op.n = rng.pick(&[0, 65, usize::MAX]),
         5 => op.phase = rng.pick(&[0, 9, u32::MAX]),

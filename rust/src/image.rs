@@ -62,8 +62,8 @@ pub fn zeroise_key(image: &mut [u8], s: usize, n: usize, key: u64) -> Result<(),
 
 /// Erases each region that has records, all of them dead. The answer is the bytes freed, `s` for each region erased.
 ///
-/// Refused: BadGeometry; then UnsupportedVersion or CorruptData where a region is bad. The regions before it are already collected
-/// then, it and the later ones stand.
+/// Refused: BadGeometry; then UnsupportedVersion or CorruptData where, in number order, a region has a bad place before any live
+/// record. The regions before it are already collected then, it and the later ones stand.
 pub fn garbage_collect(image: &mut [u8], s: usize, n: usize) -> Result<usize, Refusal> {
     answer_of(ffi::garbage_collect(image, s, n)).map(Success::value)
 }

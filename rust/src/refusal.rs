@@ -15,7 +15,7 @@ pub enum Refusal {
     BadKey,
     /// 3: the value has more than 4,079 bytes.
     ObjectTooLarge,
-    /// 4: no region holds a live record of the key.
+    /// 4: no region decides: none has a live record of the key or a bad place.
     KeyNotFound,
     /// 5: append met a live record of its key.
     KeyAlreadyExists,

@@ -7,6 +7,7 @@ use mathlib.Core.Path.{_≡_, sym, _∙_, ap}
 use mathlib.Core.List.{List, [], _∷_, _++_, append-assoc}
 use lib.ListN.{length, getD, take, drop, set, length-append, length-take, length-drop, take-append-drop, List·getD-append}
 use lib.Seq.{sets, sets-eq, getD-take, getD-drop, take-take, take-length, drop-drop, take-nil, take-at, drop-at, length-take-le, getD-append-add, take-append-le, drop-append-le, drop-append-add}
+pub use Rattle.chip.specs.Every.{Every, none, also}
 
 module _ {A : Type 0} where
   pub drop-take : (p m : ℕ) (l : List A) → drop p (take m l) ≡ take (m - p) (drop p l)
@@ -14,11 +15,6 @@ module _ {A : Type 0} where
   drop-take (suc p) zero l = rw (zero-sub (suc p))
   drop-take (suc p) (suc m) [] = sym (take-nil (suc m - suc p))
   drop-take (suc p) (suc m) (x ∷ l) = rw suc-sub-suc (drop-take p m l)
-
-  -- What holds of every element of a list.
-  pub data Every (P : A → Type 0) : List A → Type 0 where
-    none : Every P []
-    also : {x : A} {xs : List A} → P x → Every P xs → Every P (x ∷ xs)
 
   pub every-join : {P : A → Type 0} {xs ys : List A} → Every P xs → Every P ys → Every P (xs ++ ys)
   every-join none k = k

@@ -1,6 +1,6 @@
 -- A lookup of a key over the regions of an image, and what is refused before anything is read.
 use Prim.Native.Nat.{ℕ, _+_, _-_, _*_}
-use mathlib.Core.Bool.{not, cond}
+use mathlib.Core.Bool.{Bool, not, cond}
 use mathlib.Core.List.{List, [], _∷_}
 use lib.Dec.{ltb, leb}
 use lib.ListN.{length, take, drop}
@@ -23,12 +23,15 @@ use Rattle.lookup.specs.Refusals.{refusalOf}
 
 -- "Order: 1, 2, 3": the first that applies to the geometry, the key and the value's length.
 -- 1. "S or N, or in the one-call form the image length, outside the rules". 2. "key 0 or 2^64 - 1". 3. "value over 4,079 bytes".
-unfoldable pub firstRefusal : List ℕ → ℕ → ℕ → ℕ → ℕ → Check
-firstRefusal image s n key len =
-    cond (not (geometry image s n)) (Check.Refused Refusal.BadGeometry)
+abbrev pub refusalUnder : Bool → ℕ → ℕ → Check
+refusalUnder shaped key len =
+    cond (not shaped) (Check.Refused Refusal.BadGeometry)
     (cond (not (allowedKey key)) (Check.Refused Refusal.BadKey)
     (cond (ltb 4079 len) (Check.Refused Refusal.ObjectTooLarge)
     Check.Fine))
+
+unfoldable pub firstRefusal : List ℕ → ℕ → ℕ → ℕ → ℕ → Check
+firstRefusal image s n key len = refusalUnder (geometry image s n) key len
 
 -- A region's event: a live record of the key or a bad place ends the lookup, else it goes on.
 abbrev pub onEvent : ℕ → ℕ → Event → Looked → Looked

@@ -4,8 +4,8 @@ ghost use Prim.Native.Nat.{_+_, _*_, _≤_, _<_};
 ghost use lib.ListN.{length};
 ghost use Rattle.chip.specs.Geometry.{Fits};
 ghost use Rattle.probe.specs.Probe.{probes};
-ghost use Rattle.lookup.specs.Refusals.{refusalOf};
-ghost use Rattle.lookup.specs.Lookup.{firstRefusal, unseen, noted, turnOf, lookupIn, refusedBy, hitOf};
+ghost use Rattle.lookup.specs.Refusals.{number, refusalOf};
+ghost use Rattle.lookup.specs.Lookup.{refusalUnder, firstRefusal, unseen, noted, turnOf, lookupIn, refusedBy, hitOf};
 use region::Event;
 use region::Fault;
 use region::Record;
@@ -36,6 +36,26 @@ impl Refusal {
         match fault {
             Fault::UnsupportedVersion => Refusal::UnsupportedVersion,
             Fault::CorruptData => Refusal::CorruptData,
+        }
+    }
+
+    // Its number in the table "When the store says no".
+    pub fn number(self) -> u32
+        ensures { λ r. ⌜ r ≡ number self ⌝ }
+    {
+        match self {
+            Refusal::BadGeometry => 1,
+            Refusal::BadKey => 2,
+            Refusal::ObjectTooLarge => 3,
+            Refusal::KeyNotFound => 4,
+            Refusal::KeyAlreadyExists => 5,
+            Refusal::FlashFull => 6,
+            Refusal::UnsupportedVersion => 7,
+            Refusal::CorruptData => 8,
+            Refusal::BufferTooSmall(_) => 9,
+            Refusal::InvalidCheckSum => 10,
+            Refusal::BadCall => 11,
+            Refusal::FlashFailed => 12,
         }
     }
 }
@@ -105,11 +125,11 @@ pub enum Turn {
     Stop(Looked),
 }
 
-// Refusals 1, 2 and 3, in this order, before anything is read.
-pub fn first_refusal(image: &[u8], s: usize, n: usize, key: u64, len: usize) -> Check
-    ensures { λ r. ⌜ r ≡ firstRefusal (now (image .entry)) s n key len ⌝ }
+// Refusals 1, 2 and 3, in this order: of a geometry that is allowed or not, a key, and a value's length.
+pub fn refusal_under(shaped: bool, key: u64, len: usize) -> Check
+    ensures { λ r. ⌜ r ≡ refusalUnder shaped key len ⌝ }
 {
-    if !chip::fits(image, s, n) {
+    if !shaped {
         return Check::Refused(Refusal::BadGeometry);
     }
     if !probe::allowed_key(key) {
@@ -119,6 +139,13 @@ pub fn first_refusal(image: &[u8], s: usize, n: usize, key: u64, len: usize) -> 
         return Check::Refused(Refusal::ObjectTooLarge);
     }
     Check::Fine
+}
+
+// What is refused before anything is read.
+pub fn first_refusal(image: &[u8], s: usize, n: usize, key: u64, len: usize) -> Check
+    ensures { λ r. ⌜ r ≡ firstRefusal (now (image .entry)) s n key len ⌝ }
+{
+    refusal_under(chip::fits(image, s, n), key, len)
 }
 
 // What is gathered from a region that did not decide, whose records end at `at`: the first one with room counts.

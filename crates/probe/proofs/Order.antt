@@ -11,7 +11,7 @@ use lib.ListN.{length, getD}
 use borrow.Author.Tests.{ltb-true, ltb-false, leb-true, leb-false}
 use native.Mathlib.Nat.{zero-add}
 use native.Mathlib.Omega.{arith}
-use Rattle.probe.specs.Probe.{keep, around, outward, probe}
+use Rattle.probe.specs.Probe.{keep, around, outward, probe, Distinct, none, one}
 
 -- Region r stands at place i. At home + d + 1 it comes after home, the d nearer ones above, and d below or all of them.
 -- At home - d it comes after d from home downwards, and d above or all of them.
@@ -106,11 +106,6 @@ placed-of {s = s} (next v m) (List·Memᴰ·head e) = (s, omega arith, rw e v)
 placed-of (next v m) (List·Memᴰ·tail t) =
     let (i, p, u) = placed-of m t in
     (i, omega arith, u)
-
--- No element of the list comes again in it.
-pub data Distinct : List ℕ → Type 0 where
-  none : Distinct []
-  one : {x : ℕ} {l : List ℕ} → (List·Memᴰ x l → ⊥) → Distinct l → Distinct (x ∷ l)
 
 placed-distinct : {h w s : ℕ} {l : List ℕ} → Placed h w s l → Distinct l
 placed-distinct (end e) = none

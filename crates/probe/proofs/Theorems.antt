@@ -8,9 +8,10 @@ use native.Mathlib.Nat.{mod-lt}
 use native.Mathlib.Omega.{arith}
 use lib.ListN.{length, getD}
 use Rattle.probe.specs.Probe.{home, probe, probes}
-pub use Rattle.probe.proofs.Order.{Distinct, none, one}
+pub use Rattle.probe.specs.Probe.{Distinct, none, one}
 use Rattle.probe.proofs.Order.{probe-length, probe-lt, probe-has, probe-once, probe-member, probe-distinct}
-use Rattle.probe.proofs.Rust.{Visits, same, rust-visits}
+use Rattle.probe.specs.Rust.{Visits, same}
+use Rattle.probe.proofs.Rust.{rust-visits}
 
 -- A home region is one of the n.
 pub home-lt : (key n : ℕ) → 0 < n → home key n < n

@@ -1,6 +1,6 @@
 -- Keys, home regions and the probe order, for n regions. Each definition has the sentence that it says above it.
 use Prim.Native.Nat.{ℕ, zero, suc, _+_, _-_, _%_, _^_}
-use mathlib.Core.List.{List, [], _∷_, _++_}
+use mathlib.Core.List.{List, [], _∷_, _++_, List·Memᴰ}
 use mathlib.Core.Bool.{Bool, true, false, not, _&&_}
 use lib.Dec.{eqb, leb, ltb}
 
@@ -33,3 +33,8 @@ probe n h = h ∷ outward n h 1 n
 -- The probe order of a key.
 abbrev pub probes : ℕ → ℕ → List ℕ
 probes key n = probe n (home key n)
+
+-- "Each region comes exactly once": no element of the list comes again in it.
+pub data Distinct : List ℕ → Type 0 where
+  none : Distinct []
+  one : {x : ℕ} {l : List ℕ} → (List·Memᴰ x l → ⊥) → Distinct l → Distinct (x ∷ l)

@@ -10,6 +10,7 @@ use Rattle.chip.proofs.Lists.{Every, byte-before, byte-after, part-before, part
 use Rattle.region.specs.declared.Record.{Record}
 use Rattle.region.specs.declared.Step.{Step}
 use Rattle.region.specs.Walk.{recordAt, stepOf, stepAt, bytesIn}
+pub use Rattle.region.specs.Words.{Kept}
 use Rattle.region.proofs.Numbers.{big-same}
 use Rattle.region.proofs.Steps.{found-fits, found-at}
 use Rattle.region.proofs.Reach.{Reach, reach-le}
@@ -47,10 +48,6 @@ reach-before {r} r′ e t (Reach.past {o} {p} {x} h k) =
 pub reach-after : {r : List ℕ} {o q : ℕ} {xs : List Record} (r′ : List ℕ) (p : ℕ) → length r′ ≡ length r → drop p r′ ≡ drop p r → p ≤ o → Reach r o q xs → Reach r′ o q xs
 reach-after r′ p e d h Reach.here = Reach.here
 reach-after {r} r′ p e d h (Reach.past {o} q k) = Reach.past (step-after r′ r p o e d h ∙ q) (reach-after r′ p e d (omega arith) k)
-
--- The bytes of these records are the same in both.
-abbrev pub Kept : List ℕ → List ℕ → List Record → Type 0
-Kept r′ r xs = Every (λ (x : Record). bytesIn r′ x ≡ bytesIn r x) xs
 
 pub kept-before : {r : List ℕ} {o p : ℕ} {xs : List Record} (r′ : List ℕ) → take p r′ ≡ take p r → Reach r o p xs → Kept r′ r xs
 kept-before r′ t Reach.here = Every.none

@@ -12,6 +12,7 @@ use Rattle.region.specs.declared.Stop.the-variants.{End, Bad}
 use Rattle.region.specs.declared.Step.{Step}
 use Rattle.region.specs.declared.Event.{Event}
 use Rattle.region.specs.Walk.{stepAt, walkFrom, eventOf, firstOf}
+pub use Rattle.region.specs.Words.{None, First}
 use Rattle.region.proofs.Steps.{walk-stop, walk-found}
 
 -- the search from a place on
@@ -26,18 +27,6 @@ pub first-found : (test : Record → Bool) (r : List ℕ) (o : ℕ) (x : Record)
     → firstFrom test r o ≡ cond b (Event.Live x) (firstFrom test r (o + x .len))
 unfolding firstOf
 first-found test r o x b h e = rw (walk-found r o x h, e)
-
--- No record of a list passes the test.
-abbrev pub None : (Record → Bool) → List Record → Type 0
-None test xs = Every (λ (x : Record). test x ≡ false) xs
-
--- The first record that passes the test.
-pub record First (test : Record → Bool) (xs : List Record) (x : Record) : Type 0 where
-  pub before : List Record
-  pub after : List Record
-  pub split : xs ≡ before ++ x ∷ after
-  pub passes : test x ≡ true
-  pub first : None test before
 
 not-live : (s : Stop) (x : Record) → eventOf s ≡ Event.Live x → ⊥
 not-live (End o) x h = let z : _≡_ {A = ℕ} 0 1 = cc in omega arith

@@ -15,6 +15,7 @@ use Rattle.region.specs.declared.Stop.{Stop}
 use Rattle.region.specs.declared.Stop.the-variants.{End, Bad}
 use Rattle.region.specs.declared.Step.{Step}
 use Rattle.region.specs.Walk.{lengthAt, recordAt, stepOf, stepAt, View, stopped, passed, walkIn, walkFrom}
+pub use Rattle.region.specs.Words.{placeOf}
 
 -- The cases of a step, each with what its tests say.
 pub data Stands (left v : ℕ) (x : Record) : Step → Type 0 where
@@ -82,11 +83,6 @@ found left v x y h = go (stepOf left v x) (stands left v x) h
 
 pub is-found : (left v : ℕ) (x y : Record) → Found left v x y → stepOf left v x ≡ Step.Found y
 is-found left v x y f = stands-is left v x (Step.Found x) (sound (f .room) (f .version-is) (f .least) (f .fits)) ∙ ap Step.Found (f .same)
-
--- the place of a stop
-abbrev pub placeOf : Stop → ℕ
-placeOf (End o) = o
-placeOf (Bad f o) = o
 
 pub stop-place : (left v : ℕ) (x : Record) (s : Stop) → stepOf left v x ≡ Step.Stop s → x .at ≡ placeOf s
 stop-place left v x s h = go (stepOf left v x) (stands left v x) h

@@ -1,23 +1,8 @@
 // Two parts, byte by byte.
-use crate::print;
-
-pub fn same(one: &[u8], other: &[u8]) -> bool {
-    if one.len() != other.len() {
-        return false;
-    }
-    let mut i: usize = 0;
-    while i < one.len() {
-        if one[i] != other[i] {
-            return false;
-        }
-        i += 1;
-    }
-    true
-}
 
 // Whether two images are the same.
 pub fn same_image(one: &[u8; 256], other: &[u8; 256]) -> bool {
-    same(one, other)
+    report::same(one, other)
 }
 
 // A line with what changed in an image, from the first byte that did to the last.
@@ -33,9 +18,9 @@ fn show_part(image: &[u8], from: usize, end: usize) {
     if end > image.len() {
         return;
     }
-    print::text(b"  at");
-    print::number(from);
-    print::show(b":", &image[from..end]);
+    report::text(b"  at");
+    report::number(from);
+    report::show(b":", &image[from..end]);
 }
 
 // The first place whose byte changed, or the end.

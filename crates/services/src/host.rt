@@ -74,11 +74,11 @@ pub fn beat(
     print::request(ask);
     let op = wait(now, region, value, buffer, host.waits);
     if served == host.fails {
-        print::line(b" (fails)");
+        report::line(b" (fails)");
         return steps::step(op, Reply::Failed, region, value, buffer);
     }
     let reply = serve(ask, image, region);
-    print::line(b"");
+    report::line(b"");
     steps::step(op, reply, region, value, buffer)
 }
 
@@ -97,11 +97,11 @@ fn wait(now: Stepped, region: &mut [u8; 64], value: &[u8], buffer: &mut [u8], wa
 
 // Another request than the one that stands would be a mistake of the step's.
 fn not_ready(op: Op, asked: Numbers, region: &mut [u8; 64], value: &[u8], buffer: &mut [u8]) -> Op {
-    print::text(b" (not ready)");
+    report::text(b" (not ready)");
     let again = steps::step(op, Reply::NotReady, region, value, buffer);
     let ask = again.ask;
     if !asked.same(Numbers::of(ask)) {
-        print::text(b" (another request)");
+        report::text(b" (another request)");
     }
     again.op
 }
@@ -156,6 +156,6 @@ fn erase(r: usize, image: &mut [u8]) -> Reply {
 
 // A request that does not lie in the chip is not done. No operation asks for one.
 fn outside() -> Reply {
-    print::text(b" (outside)");
+    report::text(b" (outside)");
     Reply::Failed
 }

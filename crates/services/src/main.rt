@@ -171,8 +171,8 @@ fn refused_starts() {
 
 fn started(what: &[u8], start: Start) {
     match start {
-        Start::Runs(_) => print::line(what),
-        Start::Refused(refusal) => print::report(what, Answer::Refused(refusal)),
+        Start::Runs(_) => report::line(what),
+        Start::Refused(refusal) => report::answer(what, Answer::Refused(refusal)),
     }
 }
 
@@ -188,7 +188,7 @@ fn bad_appends(image: &mut [u8; 256]) {
     let mut region = [0u8; 64];
     let mut none: [u8; 0] = [];
     let value = [7u8, 8, 9];
-    print::line(b"append 1, 3 bytes, with bad calls");
+    report::line(b"append 1, 3 bytes, with bad calls");
     let Start::Runs(op) = steps::start_append(64, 4, 1, 3) else {
         return;
     };
@@ -231,7 +231,7 @@ fn bad_steps(op: Op, region: &mut [u8; 64], value: &[u8]) -> Op {
 fn bad_gets(image: &mut [u8; 256]) {
     let mut region = [0u8; 64];
     let mut buffer = [0u8; 5];
-    print::line(b"get 1 into 5 bytes, with bad calls");
+    report::line(b"get 1 into 5 bytes, with bad calls");
     let Start::Runs(op) = steps::start_get(64, 4, 1, 5) else {
         return;
     };
@@ -254,7 +254,7 @@ fn bad_gets(image: &mut [u8; 256]) {
         b"",
         &mut buffer,
     );
-    print::show(b"  buffer:", &buffer);
+    report::show(b"  buffer:", &buffer);
 }
 
 fn lend_more(now: Stepped, region: &mut [u8; 64]) -> Op {
@@ -323,7 +323,7 @@ fn get(
     host: Host,
 ) {
     both(what, Call::Get(key), image, b"", buffer, twin, host);
-    print::show(b"  buffer:", buffer);
+    report::show(b"  buffer:", buffer);
 }
 
 // A call without a buffer, and what it changed.
@@ -336,7 +336,7 @@ fn change(what: &[u8], call: Call, image: &mut [u8; 256], value: &[u8], host: Ho
 // A call whose service of this number fails. In one call there is no such thing.
 fn fail(what: &[u8], call: Call, image: &mut [u8; 256], service: usize) {
     let old = *image;
-    print::line(what);
+    report::line(what);
     run(call, image, b"", &mut [], Host::failing(service));
     compare::changes(&old, image);
 }
@@ -352,17 +352,17 @@ fn both(
     host: Host,
 ) {
     let mut other = *image;
-    print::line(what);
+    report::line(what);
     let stepped = run(call, image, value, buffer, host);
     let once = call::in_one(call, &mut other, value, twin);
     if !Numbers::of(stepped).same(Numbers::of_answer(once)) {
-        print::line(b"  in one call: another answer");
+        report::line(b"  in one call: another answer");
     } else if !compare::same_image(image, &other) {
-        print::line(b"  in one call: another image");
-    } else if !compare::same(buffer, twin) {
-        print::line(b"  in one call: another buffer");
+        report::line(b"  in one call: another image");
+    } else if !report::same(buffer, twin) {
+        report::line(b"  in one call: another buffer");
     } else {
-        print::line(b"  in one call: same");
+        report::line(b"  in one call: same");
     }
 }
 

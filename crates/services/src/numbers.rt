@@ -29,30 +29,17 @@ impl Numbers {
             Answer::Complete(len) => Numbers::new(3, len, 0, 0),
             Answer::Written => Numbers::new(4, 0, 0, 0),
             Answer::Freed(bytes) => Numbers::new(5, bytes, 0, 0),
-            Answer::Refused(refusal) => Numbers::new(6, number(refusal), wanted(refusal), 0),
+            Answer::Refused(refusal) => Numbers::new(
+                6,
+                refusal.number() as usize,
+                wanted(refusal),
+                0,
+            ),
         }
     }
 
     pub fn same(self, other: Numbers) -> bool {
         self.kind == other.kind && (self.a == other.a && (self.b == other.b && self.c == other.c))
-    }
-}
-
-// A refusal's number.
-pub fn number(refusal: Refusal) -> usize {
-    match refusal {
-        Refusal::BadGeometry => 1,
-        Refusal::BadKey => 2,
-        Refusal::ObjectTooLarge => 3,
-        Refusal::KeyNotFound => 4,
-        Refusal::KeyAlreadyExists => 5,
-        Refusal::FlashFull => 6,
-        Refusal::UnsupportedVersion => 7,
-        Refusal::CorruptData => 8,
-        Refusal::BufferTooSmall(_) => 9,
-        Refusal::InvalidCheckSum => 10,
-        Refusal::BadCall => 11,
-        Refusal::FlashFailed => 12,
     }
 }
 

@@ -1,12 +1,9 @@
 -- A running operation, and how one is started.
 use Prim.Native.Nat.{ℕ, _+_}
-use mathlib.Core.Bool.{Bool, true, false, not, cond}
-use lib.Dec.{ltb}
 use Rattle.chip.specs.Geometry.{sized}
-use Rattle.probe.specs.Probe.{allowedKey}
-use Rattle.lookup.specs.declared.Refusal.{Refusal}
 use Rattle.lookup.specs.declared.Check.{Check}
 use Rattle.lookup.specs.declared.Need.{Need}
+use Rattle.lookup.specs.Lookup.{refusalUnder}
 use Rattle.store.specs.declared.Removal.{Removal}
 use Rattle.steps.specs.declared.Job.{Job}
 use Rattle.steps.specs.declared.Phase.{Phase}
@@ -23,11 +20,7 @@ inPhase op phase = record { job = op .job; s = op .s; n = op .n; key = op .key; 
 
 -- "Order: 1, 2, 3, in the stepped form at the start, which then runs nothing".
 unfoldable pub startRefusal : ℕ → ℕ → ℕ → ℕ → Check
-startRefusal s n key len =
-    cond (not (sized s n)) (Check.Refused Refusal.BadGeometry)
-    (cond (not (allowedKey key)) (Check.Refused Refusal.BadKey)
-    (cond (ltb 4079 len) (Check.Refused Refusal.ObjectTooLarge)
-    Check.Fine))
+startRefusal s n key len = refusalUnder (sized s n) key len
 
 abbrev pub startedOr : Op → Check → Start
 startedOr op (Check.Refused w) = Start.Refused w

@@ -7,7 +7,7 @@ mod rule;
 use advance::advanced;
 use lend::act;
 use lend::ask_for;
-pub use rule::call_fits;
+use rule::call_fits;
 pub use rule::keeps_rule;
 use rule::need_of;
 ghost use mathlib.Core.Path.{_≡_};
@@ -118,20 +118,11 @@ pub struct Next {
     pub action: Move,
 }
 
-// Refusals 1, 2 and 3, in this order.
+// What a start refuses.
 fn start_refusal(s: usize, n: usize, key: u64, len: usize) -> Check
     ensures { λ r. ⌜ r ≡ startRefusal s n key len ⌝ }
 {
-    if !chip::is_sized(s, n) {
-        return Check::Refused(Refusal::BadGeometry);
-    }
-    if !probe::allowed_key(key) {
-        return Check::Refused(Refusal::BadKey);
-    }
-    if Record::LARGEST - Record::LEAST < len {
-        return Check::Refused(Refusal::ObjectTooLarge);
-    }
-    Check::Fine
+    lookup::refusal_under(chip::is_sized(s, n), key, len)
 }
 
 fn started_or(op: Op, check: Check) -> Start

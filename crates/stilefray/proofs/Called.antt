@@ -1,7 +1,7 @@
 -- One step in numbers, by what the numbers stand for.
 -- Assumes nothing.
 use Prim.Native.Nat.{ℕ}
-use mathlib.Core.Path.{_≡_, refl}
+use mathlib.Core.Path.{_≡_, refl, sym, ap}
 use mathlib.Core.Bool.{true, false}
 use mathlib.Core.List.{List}
 use Rattle.steps.specs.declared.Op.{Op}
@@ -12,6 +12,7 @@ use Rattle.stilefray.specs.declared.CStepped.{CStepped}
 use Rattle.stilefray.specs.declared.running.KnownOp.{KnownOp}
 use Rattle.stilefray.specs.declared.running.KnownReply.{KnownReply}
 use Rattle.stilefray.specs.Running.{packed, unpacked, knownReply}
+use Rattle.stilefray.proofs.Packs.{own}
 use Rattle.stilefray.specs.Calls.{badCall, packedStep, onKnown, stepNumbers, stepRegion, stepBuffer}
 
 -- What a call hands back, and what it leaves in region and buffer.
@@ -32,17 +33,18 @@ pub no-reply : (o : COperation) (y : ℕ) (region value buffer : List ℕ) → k
 unfolding stepNumbers stepRegion stepBuffer
 no-reply o y region value buffer e = rw e (other _ _ (unpacked o), other _ _ (unpacked o), other _ _ (unpacked o))
 
+-- Where the call does not fit, the operation stays, and its numbers are the ones that were given.
 pub misfit : (o : COperation) (y : ℕ) (region value buffer : List ℕ) (op : Op) (said : Reply)
     → unpacked o ≡ KnownOp.Known op → knownReply y ≡ KnownReply.Known said → fitsHere op said region value buffer ≡ false
     → Steps o y region value buffer (badCall o) region buffer
-unfolding stepNumbers stepRegion stepBuffer regionAfter bufferAfter
-misfit o y region value buffer op said e f g = rw (e, f, g) (refl, refl, refl)
+unfolding stepNumbers stepRegion stepBuffer stepped regionAfter bufferAfter
+misfit o y region value buffer op said e f g = rw (e, f, g) (ap badCall (sym (own o op e)), refl, refl)
 
 pub fit : (o : COperation) (y : ℕ) (region value buffer : List ℕ) (op : Op) (said : Reply)
-    → unpacked o ≡ KnownOp.Known op → knownReply y ≡ KnownReply.Known said → fitsHere op said region value buffer ≡ true
+    → unpacked o ≡ KnownOp.Known op → knownReply y ≡ KnownReply.Known said
     → Steps o y region value buffer (packedStep (stepped op said region value buffer)) (regionAfter op said region value buffer) (bufferAfter op said region value buffer)
 unfolding stepNumbers stepRegion stepBuffer
-fit o y region value buffer op said e f g = rw (e, f, g) (refl, refl, refl)
+fit o y region value buffer op said e f = rw (e, f) (refl, refl, refl)
 
 -- Where steps alters nothing either, BadCall in numbers is its step.
 pub misfits : (y : ℕ) (op : Op) (said : Reply) (region value buffer : List ℕ) → fitsHere op said region value buffer ≡ false

@@ -7,7 +7,9 @@ use mathlib.Core.List.{List}
 use mathlib.Core.Logic.{_⊎_, ⊎-elim}
 use Rattle.store.specs.declared.Answer.{Answer}
 use Rattle.store.specs.declared.Answer.the-variants.{Complete, Written, Freed, Refused}
-use Rattle.store.specs.Answer.{refusal}
+use lib.ListN.{getD}
+use Rattle.lookup.specs.declared.Refusal.{Refusal}
+use Rattle.store.specs.Answer.{refusal, values}
 use Rattle.steps.specs.declared.Phase.{Phase}
 use Rattle.steps.specs.declared.Op.{Op}
 use Rattle.steps.specs.declared.Reply.{Reply}
@@ -53,16 +55,15 @@ pub step-carries : (op : Op) (y : Reply) (region value buffer : List ℕ)
     → (stepNumbers (packed op) (replyNumber y) region value buffer ≡ packedStep (stepped op y region value buffer))
     × (stepRegion (packed op) (replyNumber y) region value buffer ≡ regionAfter op y region value buffer)
     × (stepBuffer (packed op) (replyNumber y) region value buffer ≡ bufferAfter op y region value buffer)
-step-carries op y region value buffer = go (standing op) (fitsHere op y region value buffer) refl
+step-carries op y region value buffer = go (standing op)
   where
     o : COperation
     o = packed op
 
-    go : Standing op → (b : Bool) → fitsHere op y region value buffer ≡ b
+    go : Standing op
         → Steps o (replyNumber y) region value buffer (packedStep (stepped op y region value buffer)) (regionAfter op y region value buffer) (bufferAfter op y region value buffer)
-    go (runs e) true g = fit o _ region value buffer op y e (known-number y) g
-    go (runs e) false g = misfits _ op y region value buffer g (misfit o _ region value buffer op y e (known-number y) g)
-    go (ended answer _ e h) b g = misfits _ op y region value buffer (h y _ _ _) (no-op o _ region value buffer e)
+    go (runs e) = fit o _ region value buffer op y e (known-number y)
+    go (ended answer _ e h) = misfits _ op y region value buffer (h y _ _ _) (no-op o _ region value buffer e)
 
 -- "BadCall leaves the running operation as it was": numbers that stand for no running operation, or for no reply, come back as they were, and region and buffer too.
 pub bad-call-keeps : (o : COperation) (y : ℕ) (region value buffer : List ℕ) → (unpacked o ≡ KnownOp.Unknown) ⊎ (knownReply y ≡ KnownReply.Unknown)
@@ -101,6 +102,24 @@ refusal-numbers (Complete len) = refl
 refusal-numbers Written = refl
 refusal-numbers (Freed bytes) = refl
 refusal-numbers (Refused w) = refl
+
+-- The value in an answer is the one that the answer gives, and 0 where it gives none.
+pub value-numbers : (answer : Answer) → answerNumbers answer .value ≡ getD (values answer) 0 0
+value-numbers (Complete len) = refl
+value-numbers Written = refl
+value-numbers (Freed bytes) = refl
+value-numbers (Refused Refusal.BadGeometry) = refl
+value-numbers (Refused Refusal.BadKey) = refl
+value-numbers (Refused Refusal.ObjectTooLarge) = refl
+value-numbers (Refused Refusal.KeyNotFound) = refl
+value-numbers (Refused Refusal.KeyAlreadyExists) = refl
+value-numbers (Refused Refusal.FlashFull) = refl
+value-numbers (Refused Refusal.UnsupportedVersion) = refl
+value-numbers (Refused Refusal.CorruptData) = refl
+value-numbers (Refused (Refusal.BufferTooSmall len)) = refl
+value-numbers (Refused Refusal.InvalidCheckSum) = refl
+value-numbers (Refused Refusal.BadCall) = refl
+value-numbers (Refused Refusal.FlashFailed) = refl
 
 -- Two answers with the same numbers are the same answer.
 pub one-answer : (a b : Answer) → answerNumbers a ≡ answerNumbers b → a ≡ b

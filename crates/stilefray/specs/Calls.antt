@@ -1,6 +1,5 @@
 -- One step in numbers: steps' `stepped`, `regionAfter` and `bufferAfter` on what the numbers stand for.
 use Prim.Native.Nat.{ℕ}
-use mathlib.Core.Bool.{Bool, true, false, cond}
 use mathlib.Core.List.{List}
 use Rattle.lookup.specs.declared.Refusal.{Refusal}
 use Rattle.store.specs.declared.Answer.the-variants.{Refused}
@@ -8,7 +7,7 @@ use Rattle.steps.specs.declared.Op.{Op}
 use Rattle.steps.specs.declared.Reply.{Reply}
 use Rattle.steps.specs.declared.Ask.{Ask}
 use Rattle.steps.specs.declared.Stepped.{Stepped}
-use Rattle.steps.specs.Step.{fitsHere, stepped, regionAfter, bufferAfter}
+use Rattle.steps.specs.Step.{stepped, regionAfter, bufferAfter}
 use Rattle.stilefray.specs.declared.COperation.{COperation}
 use Rattle.stilefray.specs.declared.CStepped.{CStepped}
 use Rattle.stilefray.specs.declared.running.KnownOp.{KnownOp}
@@ -31,8 +30,7 @@ onKnown other runs (KnownOp.Known op) (KnownReply.Known y) = runs op y
 
 unfoldable pub stepNumbers : COperation → ℕ → List ℕ → List ℕ → List ℕ → CStepped
 stepNumbers o reply region value buffer =
-    onKnown (badCall o) (λ op y. cond (fitsHere op y region value buffer) (packedStep (stepped op y region value buffer)) (badCall o))
-    (unpacked o) (knownReply reply)
+    onKnown (badCall o) (λ op y. packedStep (stepped op y region value buffer)) (unpacked o) (knownReply reply)
 
 unfoldable pub stepRegion : COperation → ℕ → List ℕ → List ℕ → List ℕ → List ℕ
 stepRegion o reply region value buffer =

@@ -29,8 +29,8 @@ pub struct CAnswer {
     pub value: usize,
 }
 
-// A running operation. Which numbers a job and a phase have, and what `tag`, `a`, `b`, `c`, `found` and `flags` hold in each phase, stands at
-// `pack`; what a phase does not use is 0.
+// A running operation. Which number a job has stands at `job_number`; which a phase has, and what `tag`, `a`, `b`, `c`, `found` and `flags`
+// hold in it, at `Spot::of`. What a job or a phase does not use is 0.
 #[repr(C)]
 pub struct COperation {
     pub job: u32,

@@ -1,32 +1,11 @@
 // Answers and requests in numbers.
 ghost use mathlib.Core.Path.{_≡_};
-ghost use Rattle.lookup.specs.Refusals.{number};
 ghost use Rattle.stilefray.specs.Numbers.{refusalValue, answerNumbers, serviceNumbers, requestNumbers};
 use crate::CAnswer;
 use crate::CRequest;
 use lookup::Refusal;
 use steps::Ask;
 use store::Answer;
-
-// A refusal's number in the table "When the store says no".
-pub fn refusal_number(refusal: Refusal) -> u32
-    ensures { λ r. ⌜ r ≡ number refusal ⌝ }
-{
-    match refusal {
-        Refusal::BadGeometry => 1,
-        Refusal::BadKey => 2,
-        Refusal::ObjectTooLarge => 3,
-        Refusal::KeyNotFound => 4,
-        Refusal::KeyAlreadyExists => 5,
-        Refusal::FlashFull => 6,
-        Refusal::UnsupportedVersion => 7,
-        Refusal::CorruptData => 8,
-        Refusal::BufferTooSmall(_) => 9,
-        Refusal::InvalidCheckSum => 10,
-        Refusal::BadCall => 11,
-        Refusal::FlashFailed => 12,
-    }
-}
 
 // The full value length that BufferTooSmall gives; the other refusals give none.
 pub fn refusal_value(refusal: Refusal) -> usize
@@ -69,7 +48,7 @@ pub fn answer_numbers(answer: Answer) -> CAnswer
         },
         Answer::Refused(refusal) => CAnswer {
             kind: 0,
-            refusal: refusal_number(refusal),
+            refusal: refusal.number(),
             value: refusal_value(refusal),
         },
     }

@@ -3,7 +3,6 @@ ghost use mathlib.Core.Path.{_≡_};
 ghost use Rattle.stilefray.specs.Running.{jobNumber, jobLent, spot, seekSpot, spotOf, packed, noOperation, startNumbers, knownJob, seekWith, knownSeek, knownPhase, readAs, sameJob, sameSpot, unpacked, knownReply};
 use crate::COperation;
 use crate::CStart;
-use crate::numbers::refusal_number;
 use lookup::Room;
 use lookup::Seen;
 use region::Record;
@@ -188,7 +187,7 @@ pub fn pack_start(start: Start) -> CStart
             op: pack(op),
         },
         Start::Refused(refusal) => CStart {
-            refusal: refusal_number(refusal),
+            refusal: refusal.number(),
             op: none(),
         },
     }

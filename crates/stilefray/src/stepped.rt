@@ -60,7 +60,7 @@ pub extern "C" fn stilefray_start_initialise(s: usize, n: usize, key: u64) -> CS
     pack_start(steps::start_initialise(s, n, key))
 }
 
-// BadCall, which leaves the running operation as it was, to the last number.
+// Numbers that stand for nothing: BadCall, and they stay as they are.
 fn bad_call(op: COperation) -> CStepped
     ensures { λ r. ⌜ r ≡ badCall op ⌝ }
 {
@@ -87,13 +87,10 @@ pub extern "C" fn stilefray_step(
         return bad_call(op);
     };
     let said = known_reply(reply);
-    let KnownReply::Known(service) = said else {
+    let KnownReply::Known(told) = said else {
         return bad_call(op);
     };
-    if !steps::call_fits(known, service, region.len(), value.len(), buffer.len()) {
-        return bad_call(op);
-    }
-    let stepped = steps::step(known, service, region, value, buffer);
+    let stepped = steps::step(known, told, region, value, buffer);
     let after = stepped.op;
     let ask = stepped.ask;
     CStepped {

@@ -16,8 +16,8 @@ enum-known-answer-2 c = search needs
 enum-known-answer-3 : tie.Need-enum-known-answer-3
 enum-known-answer-3 c = search needs
 
-refusal-number-requires : tie.Need-refusal-number-requires
-refusal-number-requires c κs = search needs
+number-requires : tie.Need-number-requires
+number-requires c κs = search needs
 
 refusal-value-requires : tie.Need-refusal-value-requires
 refusal-value-requires c κs = search needs
@@ -32,7 +32,7 @@ returns-3 : tie.Need-returns-3
 returns-3 c = rw (c .before .answer2 .given .1)
 
 returns-4 : tie.Need-returns-4
-returns-4 c = rw (c .before .before .before .answer3 .given .1, c .before .refusal-number .ensures, c .refusal-value .ensures)
+returns-4 c = rw (c .before .before .before .answer3 .given .1, c .before .number .ensures, c .refusal-value .ensures)
 
 pub answer-numbers-spec : {M : Type 1} → statement M
 answer-numbers-spec =
@@ -42,7 +42,7 @@ answer-numbers-spec =
     enum-told
     enum-known-answer-2
     enum-known-answer-3
-    refusal-number-requires
+    number-requires
     refusal-value-requires
     returns
     returns-2

@@ -13,8 +13,8 @@ pack-requires c κs = search needs
 enum-known-start-2 : tie.Need-enum-known-start-2
 enum-known-start-2 c = search needs
 
-refusal-number-requires : tie.Need-refusal-number-requires
-refusal-number-requires c κs = search needs
+number-requires : tie.Need-number-requires
+number-requires c κs = search needs
 
 none-requires : tie.Need-none-requires
 none-requires c κs = search needs
@@ -23,7 +23,7 @@ returns : tie.Need-returns
 returns c = rw (c .before .before .start .given .1, c .pack .ensures)
 
 returns-2 : tie.Need-returns-2
-returns-2 c = rw (c .before .before .before .start2 .given .1, c .before .refusal-number .ensures, c .none .ensures)
+returns-2 c = rw (c .before .before .before .start2 .given .1, c .before .number .ensures, c .none .ensures)
 
 pub pack-start-spec : {M : Type 1} → statement M
 pack-start-spec =
@@ -32,7 +32,7 @@ pack-start-spec =
     enum-known-start
     pack-requires
     enum-known-start-2
-    refusal-number-requires
+    number-requires
     none-requires
     returns
     returns-2)

@@ -1,13 +1,12 @@
--- `stilefray::stepped::stilefray_step` meets its contract: numbers that stand for nothing and calls that do not fit alter nothing, and the others are steps'.
+-- `stilefray::stepped::stilefray_step` meets its contract: numbers that stand for nothing alter nothing, and the others are steps'.
 -- Assumes nothing.
 use mathlib.Core.Path.{_≡_, sym, _∙_, ap}
-use borrow.Author.Tests.{not-true, not-false}
 use denote.Ref.{now}
 use Rattle.stilefray.specs.declared.running.KnownOp.{KnownOp}
 use Rattle.stilefray.specs.declared.running.KnownReply.{KnownReply}
 use Rattle.stilefray.specs.Running.{unpacked, knownReply}
 use Rattle.stilefray.specs.Calls.{packedStep}
-use Rattle.stilefray.proofs.Called.{no-op, no-reply, misfit, fit}
+use Rattle.stilefray.proofs.Called.{no-op, no-reply, fit}
 use borrow.Author.Needs.{needs}
 use Rattle.stilefray.proofs.stepped.stilefray_step.Statement.{statement}
 use Rattle.stilefray.proofs.stepped.stilefray_step.Tie as tie
@@ -55,19 +54,6 @@ returns-2 c =
     let (t, r, l) = no-reply (a .op) (a .reply) (now (a .region)) (now (a .value)) (now (a .buffer)) (sym (c .before .before .before .known-reply .ensures) ∙ c .before .enum-told2 .given .1) in
     (c .bad-call2 .ensures ∙ sym t, sym r, sym l)
 
-call-fits-requires : tie.Need-call-fits-requires
-call-fits-requires c κs = search needs
-
-bad-call-requires-3 : tie.Need-bad-call-requires-3
-bad-call-requires-3 c κs = search needs
-
-returns-3 : tie.Need-returns-3
-returns-3 c =
-    let d = c .before .before .before in
-    let a = d .before .before .before .before .before .before .before .before .before .before .before .args in
-    let (t, r, l) = misfit (a .op) (a .reply) (now (a .region)) (now (a .value)) (now (a .buffer)) _ _ (runs d) (said d) (sym (c .before .before .call-fits .ensures) ∙ not-true _ (c .before .if1 .taken)) in
-    (c .bad-call3 .ensures ∙ sym t, sym r, sym l)
-
 step-requires : tie.Need-step-requires
 step-requires c κs = search needs
 
@@ -83,12 +69,12 @@ same-length c = search needs
 same-length-2 : tie.Need-same-length-2
 same-length-2 c = search needs
 
-returns-4 : tie.Need-returns-4
-returns-4 c =
-    let d = c .before .before .before .before .before .before .before .before .before .before .before .before in
+returns-3 : tie.Need-returns-3
+returns-3 c =
+    let d = c .before .before .before .before .before .before .before .before .before .before in
     let a = d .before .before .before .before .before .before .before .before .before .before .before .args in
     let s = c .before .before .before .before .before .before .before .step .ensures in
-    let (t, r, l) = fit (a .op) (a .reply) (now (a .region)) (now (a .value)) (now (a .buffer)) _ _ (runs d) (said d) (sym (c .before .before .before .before .before .before .before .before .before .before .before .call-fits .ensures) ∙ not-false _ (c .before .before .before .before .before .before .before .before .before .before .if1 .left)) in
+    let (t, r, l) = fit (a .op) (a .reply) (now (a .region)) (now (a .value)) (now (a .buffer)) _ _ (runs d) (said d) in
     ((λ i. record { op = c .before .pack .ensures i; request = c .request-numbers .ensures i }) ∙ ap packedStep (s .0) ∙ sym t, s .1 ∙ sym r, s .2 ∙ sym l)
 
 pub stilefray-step-spec : {M : Type 1} → statement M
@@ -105,12 +91,9 @@ stilefray-step-spec =
     enum-told-2
     bad-call-requires-2
     returns-2
-    call-fits-requires
-    bad-call-requires-3
-    returns-3
     step-requires
     pack-requires
     request-numbers-requires
     same-length
     same-length-2
-    returns-4)
+    returns-3)

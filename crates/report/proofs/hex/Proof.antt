@@ -1,19 +1,16 @@
--- `services::print::show` meets its contract, that it is safe and ends. The loop's invariant: `i` is at most the length.
+-- `report::hex` meets its contract, that it is safe and ends. The loop's invariant: `i` is at most the length.
 -- The measure is what is left of the length. Assumes nothing.
 use Prim.Native.Nat.{_-_, _≤_}
 use lib.ListN.{length}
 use borrow.Author.Needs.{needs}
-use Rattle.services.proofs.print.show.Statement.{statement}
-use Rattle.services.proofs.print.show.Tie as tie
+use Rattle.report.proofs.hex.Statement.{statement}
+use Rattle.report.proofs.hex.Tie as tie
 
 abbrev Inv-loop : tie.InvT-loop
-Inv-loop what bytes i₀ t4 t5 i = i ≤ length bytes
+Inv-loop bytes i₀ t3 i = i ≤ length bytes
 
 abbrev μ-loop : tie.MeasureT-loop
-μ-loop what bytes i₀ t4 t5 i = length bytes - i
-
-text-requires : tie.Need-text-requires Inv-loop μ-loop
-text-requires c κs = search needs
+μ-loop bytes i₀ t3 i = length bytes - i
 
 loop-holds : tie.Need-loop-holds Inv-loop μ-loop
 loop-holds c = search needs
@@ -21,8 +18,8 @@ loop-holds c = search needs
 slice-aggregate-text : tie.Need-slice-aggregate-text Inv-loop μ-loop
 slice-aggregate-text c = search needs
 
-text-requires-2 : tie.Need-text-requires-2 Inv-loop μ-loop
-text-requires-2 c κs = search needs
+text-requires : tie.Need-text-requires Inv-loop μ-loop
+text-requires c κs = search needs
 
 shared-slice-read-wide : tie.Need-shared-slice-read-wide Inv-loop μ-loop
 shared-slice-read-wide c = search needs
@@ -42,31 +39,22 @@ loop-less c = search needs
 loop-again : tie.Need-loop-again Inv-loop μ-loop
 loop-again c = search needs
 
-slice-aggregate-text-2 : tie.Need-slice-aggregate-text-2 Inv-loop μ-loop
-slice-aggregate-text-2 c = search needs
-
-text-requires-3 : tie.Need-text-requires-3 Inv-loop μ-loop
-text-requires-3 c κs = search needs
-
 returns : tie.Need-returns Inv-loop μ-loop
 returns c = search needs
 
-pub show-spec : {M : Type 1} → statement M
-show-spec =
+pub hex-spec : {M : Type 1} → statement M
+hex-spec =
     tie.close
     (tie.spec
     Inv-loop
     μ-loop
-    text-requires
     loop-holds
     slice-aggregate-text
-    text-requires-2
+    text-requires
     shared-slice-read-wide
     wide-requires
     print-hex-requires
     add-i
     loop-less
     loop-again
-    slice-aggregate-text-2
-    text-requires-3
     returns)

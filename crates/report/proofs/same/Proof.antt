@@ -1,11 +1,11 @@
--- `services::compare::same` meets its contract, that it is safe and ends. The loop's invariant: the lengths are one, and `i` is at most it.
+-- `report::same` meets its contract, that it is safe and ends. The loop's invariant: the lengths are one, and `i` is at most it.
 -- The measure is what is left of the length. Assumes nothing.
 use mathlib.Core.Path.{_≡_}
 use Prim.Native.Nat.{_-_, _≤_}
 use lib.ListN.{length}
 use borrow.Author.Needs.{needs}
-use Rattle.services.proofs.compare.same.Statement.{statement}
-use Rattle.services.proofs.compare.same.Tie as tie
+use Rattle.report.proofs.same.Statement.{statement}
+use Rattle.report.proofs.same.Tie as tie
 
 abbrev Inv-loop : tie.InvT-loop
 Inv-loop one other i₀ i = (length other ≡ length one) × (i ≤ length one)

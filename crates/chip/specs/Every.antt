@@ -1,0 +1,6 @@
+-- A word of the theorems: what holds of every element of a list.
+use mathlib.Core.List.{List, [], _∷_}
+
+pub data Every {A : Type 0} (P : A → Type 0) : List A → Type 0 where
+  none : Every P []
+  also : {x : A} {xs : List A} → P x → Every P xs → Every P (x ∷ xs)
