@@ -1,18 +1,20 @@
 -- What a host may rely on that takes an operation one flash service at a time. `drive` (Host.antt) is the host: it holds the image, lends the
 -- same buffers each time, and in each beat is ready or not. `services` (Services.antt) is the list of services of document 01.
--- The arguments: Runs.antt (the services of each operation), Waits.antt (waiting), Refuses.antt, Bounds.antt, Keeps.antt and After.antt (the rule).
+-- The arguments: Runs.antt (the services of each operation), Waits.antt (waiting), Refuses.antt, Bounds.antt, Keeps.antt and After.antt (the rule),
+-- Exactly.antt (refusals 11 and 12).
 -- Assumes nothing.
 use Prim.Native.Nat.{ℕ, _+_, _*_, _^_, _≤_, _<_}
 use native.Mathlib.Nat.{le-trans}
 use mathlib.Core.Path.{_≡_, refl, sym, _∙_, ap, subst}
 use mathlib.Core.Bool.{Bool, true, false, cond}
 use mathlib.Core.List.{List, [], _++_}
-use mathlib.Core.Logic.{inl}
+use mathlib.Core.Logic.{inl, _↔_}
 use lib.ListN.{length, take, drop, replicate}
 use Rattle.chip.specs.Chip.{Bytes}
 use Rattle.chip.specs.Geometry.{Fits}
 use Rattle.lookup.specs.declared.Refusal.{Refusal}
 use Rattle.store.specs.declared.Answer.the-variants.{Refused, Complete, Written}
+use Rattle.store.specs.declared.Removal.{Removal}
 use Rattle.store.specs.Store.{Got, getOf, appendOf}
 use Rattle.bindings.specs.WellFormed.{WellFormed}
 use Rattle.bindings.specs.Calls.{Typed, imageAfterAll, SparesAll}
@@ -26,10 +28,10 @@ use Rattle.steps.specs.declared.Start.{Start}
 use Rattle.steps.specs.declared.Reply.{Reply}
 use Rattle.steps.specs.declared.Ask.{Ask}
 use Rattle.steps.specs.declared.Stepped.{Stepped}
-use Rattle.steps.specs.Op.{inPhase, getStarted}
+use Rattle.steps.specs.Op.{inPhase, getStarted, appendStarted, removeStarted, collectStarted, initialiseStarted}
 use Rattle.steps.specs.Rule.{rule}
 use Rattle.steps.specs.Step.{askIn, askOf, nextOf, fitsHere, stepped, regionAfter, bufferAfter}
-use Rattle.runs.specs.Host.{Inside, asks, begun, drive, readies, startOf, Lends, lends-get, bufferOf}
+use Rattle.runs.specs.Host.{Inside, asks, askRefusal, begun, drive, readies, startOf, Lends, lends-get, bufferOf}
 use Rattle.runs.specs.Services.{services, most, Ends}
 use Rattle.steps.proofs.Rules.{kept, is-kept, fits-kept}
 use Rattle.steps.proofs.After.{next-after}
@@ -38,6 +40,7 @@ use Rattle.runs.proofs.Runs.{Result}
 use Rattle.runs.proofs.Waits.{run-unwaited, run-ends, run-goes-on}
 use Rattle.runs.proofs.Refuses.{refused-so}
 use Rattle.runs.proofs.Bounds.{bound, most-any}
+use Rattle.runs.proofs.Exactly.{step-refuses, is-bad-call, is-flash-failed}
 
 -- "a lookup N at most, the longest 3N+1": get n, append and the removals n + 1, "collect [..] 2N at most", "initialise [..] 3N+1 at most".
 pub at-most : (c : Call) (image : List ℕ) (s n : ℕ) → length (services c image s n) ≤ most c n
@@ -152,3 +155,58 @@ pub flash-failed : (op : Op) (region value buffer : List ℕ) → fitsHere op Re
     × (bufferAfter op Reply.Failed region value buffer ≡ buffer)
 unfolding stepped regionAfter bufferAfter nextOf askIn
 flash-failed op region value buffer h = (rw h, rw h, rw h)
+
+-- "Exactly when".
+
+-- 11 BadCall, exactly when "region buffer not S bytes, append's value or get's buffer not of the length named at the start, "begin" at any but the
+-- first step or another reply at the first, a step after the end, or a running operation that breaks the written rule".
+pub bad-call-exactly-when : (op : Op) (y : Reply) (region value buffer : List ℕ)
+    → (askRefusal (stepped op y region value buffer .ask) ≡ 11) ↔ (fitsHere op y region value buffer ≡ false)
+bad-call-exactly-when op y region value buffer = (
+  is-bad-call op y region value buffer (step-refuses op y region value buffer),
+  λ h. ap (λ (t : Stepped). askRefusal (t .ask)) (bad-call op y region value buffer h .0),
+)
+
+-- 12 FlashFailed, exactly when "the host reports a failed service"; "11 before 12": at a call that fits.
+pub flash-failed-exactly-when : (op : Op) (y : Reply) (region value buffer : List ℕ)
+    → (askRefusal (stepped op y region value buffer .ask) ≡ 12) ↔ ((fitsHere op y region value buffer ≡ true) × (y ≡ Reply.Failed))
+flash-failed-exactly-when op y region value buffer = (
+  is-flash-failed op y region value buffer (step-refuses op y region value buffer),
+  λ (h, e). ap (λ (z : Reply). askRefusal (stepped op z region value buffer .ask)) e
+      ∙ ap (λ (t : Stepped). askRefusal (t .ask)) (flash-failed op region value buffer (subst (λ (z : Reply). fitsHere op z region value buffer ≡ true) e h) .0),
+)
+
+-- "Show that any pair of results allowed for one input is identical": a step's result, region buffer and buffer at exit, and what a start gives.
+
+-- What step's contract allows.
+abbrev StepAllows : Op → Reply → List ℕ → List ℕ → List ℕ → Stepped → List ℕ → List ℕ → Type 0
+StepAllows op y region value buffer t r b =
+    (t ≡ stepped op y region value buffer) × (r ≡ regionAfter op y region value buffer) × (b ≡ bufferAfter op y region value buffer)
+
+pub step-only-one : (op : Op) (y : Reply) (region value buffer : List ℕ) {t t′ : Stepped} {r r′ b b′ : List ℕ}
+    → StepAllows op y region value buffer t r b
+    → StepAllows op y region value buffer t′ r′ b′
+    → (t ≡ t′) × (r ≡ r′) × (b ≡ b′)
+step-only-one op y region value buffer (p, q, u) (p′, q′, u′) = (p ∙ sym p′, q ∙ sym q′, u ∙ sym u′)
+
+only-one : {start a a′ : Start} → a ≡ start → a′ ≡ start → a ≡ a′
+only-one p p′ = p ∙ sym p′
+
+module _ (s n : ℕ) {a a′ : Start} where
+  pub start-get-only-one : (key room : ℕ) → a ≡ getStarted s n key room → a′ ≡ getStarted s n key room → a ≡ a′
+  start-get-only-one key room = only-one
+
+  pub start-append-only-one : (key len : ℕ) → a ≡ appendStarted s n key len → a′ ≡ appendStarted s n key len → a ≡ a′
+  start-append-only-one key len = only-one
+
+  pub start-invalidate-only-one : (key : ℕ) → a ≡ removeStarted Removal.Invalidate s n key → a′ ≡ removeStarted Removal.Invalidate s n key → a ≡ a′
+  start-invalidate-only-one key = only-one
+
+  pub start-zeroise-only-one : (key : ℕ) → a ≡ removeStarted Removal.Zeroise s n key → a′ ≡ removeStarted Removal.Zeroise s n key → a ≡ a′
+  start-zeroise-only-one key = only-one
+
+  pub start-collect-only-one : a ≡ collectStarted s n → a′ ≡ collectStarted s n → a ≡ a′
+  start-collect-only-one = only-one
+
+  pub start-initialise-only-one : (key : ℕ) → a ≡ initialiseStarted s n key → a′ ≡ initialiseStarted s n key → a ≡ a′
+  start-initialise-only-one key = only-one

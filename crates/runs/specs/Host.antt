@@ -7,6 +7,7 @@ use Rattle.chip.specs.Chip.{written}
 use Rattle.chip.specs.Geometry.{regionOf, eraseRegion}
 use Rattle.store.specs.declared.Answer.{Answer}
 use Rattle.store.specs.declared.Removal.{Removal}
+use Rattle.store.specs.Answer.{refusal}
 use Rattle.store.specs.Store.{getOf}
 use Rattle.store.specs.Call.{Call, get, append, remove, collect, initialise}
 use Rattle.steps.specs.declared.Op.{Op}
@@ -54,6 +55,13 @@ asks (Ask.Read r) = true
 asks (Ask.Write a e p) = true
 asks (Ask.Erase r) = true
 asks (Ask.Answers answer) = false
+
+-- the number of the refusal that a step answers, 0 where it answers without one or asks for a service
+abbrev pub askRefusal : Ask → ℕ
+askRefusal (Ask.Read r) = 0
+askRefusal (Ask.Write a e p) = 0
+askRefusal (Ask.Erase r) = 0
+askRefusal (Ask.Answers answer) = refusal answer
 
 -- a step with a reply: the host lends what it has, and has what the step leaves
 abbrev pub told : Op → Reply → List ℕ → List ℕ → List ℕ → List ℕ → Host
