@@ -1,11 +1,15 @@
 # Builds the harness into target/beside/. Sourced by the scripts, from the root.
-# Exits with 3 where there is no compiler or no source of the crate.
+# Exits with 3 where there is no source of the crate, with 4 where there is no compiler.
 
 crate_source=${TICKV_SRC:-../shared/docs/src}
 out=target/beside
 
-command -v rustc >/dev/null || { echo "no rustc here: nothing was run"; exit 3; }
 [ -f "$crate_source/src/lib.rs" ] || { echo "no source of tickv at $crate_source (TICKV_SRC): nothing was run"; exit 3; }
+# Where rustup puts it, if the PATH does not say.
+command -v rustc >/dev/null || PATH=$PATH:${HOME:-}/.cargo/bin
+for tool in rustc cc; do
+    "$tool" --version >/dev/null 2>&1 || { echo "no $tool that runs here: nothing was run"; exit 4; }
+done
 
 bash scripts/archive || exit 1
 
