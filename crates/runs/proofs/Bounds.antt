@@ -26,17 +26,11 @@ use Rattle.store.specs.declared.Removal.{Removal}
 use Rattle.store.specs.Store.{getOf, verdict, numbers, startsAnew}
 use Rattle.store.specs.Call.{Call, get, append, remove, collect, initialise}
 use Rattle.steps.specs.declared.Ask.{Ask}
-use Rattle.runs.specs.Services.{unlessRefused, unlessDecided, readsOf, getServices, roomWrite, appendWrite, appendServices, removalWrite, collectServices, anewServices, services, most}
+use Rattle.bindings.proofs.Lasting.{read-most}
+use Rattle.runs.specs.Services.{unlessRefused, readsOf, getServices, roomWrite, appendWrite, appendServices, removalWrite, collectServices, anewServices, services, most}
 
 reads-bound : (key s : ℕ) (image rs : List ℕ) → length (readsOf key s image rs) ≤ length rs
-unfolding readsOf
-reads-bound key s image [] = omega arith
-reads-bound key s image (r ∷ rs) = go (eventIn (regionOf s image r) (Want.Key key)) (reads-bound key s image rs)
-  where
-    go : (e : Event) → length (readsOf key s image rs) ≤ length rs → suc (length (unlessDecided e (readsOf key s image rs))) ≤ suc (length rs)
-    go (Event.Live x) h = omega arith
-    go (Event.Bad f o) h = omega arith
-    go (Event.End o) h = omega arith
+reads-bound key s image rs = rw length-map (read-most key s image rs)
 
 collect-bound : (s : ℕ) (image rs : List ℕ) → length (collectServices s image rs) ≤ 2 * length rs
 unfolding collectServices

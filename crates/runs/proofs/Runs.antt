@@ -50,7 +50,8 @@ use Rattle.steps.specs.declared.Next.{Next}
 use Rattle.steps.specs.Op.{startRefusal, needOf}
 use Rattle.steps.specs.Step.{askIn, askOf, goesOn, ends, appendEnds, initialiseEnds, lookupAnswer, lookupEnds, turnEnds, sweepNext, sweepEnds, first, advanceIn, advance, laid, copied}
 use Rattle.runs.specs.Host.{imageServed, regionServed, asks, Lends, lends-get, lends-append, lends-remove, lends-collect, lends-initialise, bufferOf}
-use Rattle.runs.specs.Services.{unlessRefused, unlessDecided, readsOf, getServices, appendWrite, appendServices, removalWrite, collectServices, anewServices, services}
+use Rattle.bindings.specs.Calls.{onRead, regionsRead}
+use Rattle.runs.specs.Services.{unlessRefused, readsOf, getServices, appendWrite, appendServices, removalWrite, collectServices, anewServices, services}
 use Rattle.runs.proofs.Keeps.{opAt, jobOf, keyOf, lengthOf}
 
 -- Where an operation stands between two steps, and the next such place.
@@ -138,6 +139,26 @@ Closes job s n key value image buffer o =
     (p : Phase) (looked : Looked) (region : List ℕ) → lookupIn key (needOf job) s image (probes key n) ≡ looked → length region ≡ s → Near s image region looked
     → Reaches s value (arrive value (opAt job s n key p) (lookupEnds job (opAt job s n key p) region looked) image region buffer) o
 
+-- The reads, one region at a time: a live record of the key or a bad place decides.
+abbrev unlessDecided : Event → List Ask → List Ask
+unlessDecided (Event.Live x) asked = []
+unlessDecided (Event.Bad f o) asked = []
+unlessDecided (Event.End o) asked = asked
+
+reads-on : (r : ℕ) (rs : List ℕ) (e : Event) → map Ask.Read (onRead r e rs) ≡ Ask.Read r ∷ unlessDecided e (map Ask.Read rs)
+reads-on r rs (Event.Live x) = refl
+reads-on r rs (Event.Bad f o) = refl
+reads-on r rs (Event.End o) = refl
+
+reads-one : (key s : ℕ) (image : List ℕ) (r : ℕ) (rs : List ℕ)
+    → readsOf key s image (r ∷ rs) ≡ Ask.Read r ∷ unlessDecided (eventIn (regionOf s image r) (Want.Key key)) (readsOf key s image rs)
+unfolding regionsRead
+reads-one key s image r rs = reads-on r (regionsRead key s image rs) (eventIn (regionOf s image r) (Want.Key key))
+
+reads-none : (key s : ℕ) (image : List ℕ) → readsOf key s image [] ≡ []
+unfolding regionsRead
+reads-none key s image = refl
+
 module _ (job : Job) (s n key : ℕ) (value image buffer : List ℕ) (f : Fits image s n) (o : Result) (closes : Closes job s n key value image buffer o) where
   abbrev whole : Looked
   whole = lookupIn key (needOf job) s image (probes key n)
@@ -158,7 +179,6 @@ module _ (job : Job) (s n key : ℕ) (value image buffer : List ℕ) (f : Fits i
       (arrive value (seeker i seen) (turnEnds (seeker i seen) i (regionOf s image r) (turnOn seen (needOf job) r (regionOf s image r) e)) image (regionOf s image r)
       buffer)
       (after (unlessDecided e (readsOf key s image (drop (i + 1) (probes key n)))) o)
-  unfolding readsOf
   turning i r seen (Event.Live x) l h ih = closes _ _ _ (sym h) l (near-live refl)
   turning i r seen (Event.Bad g p) l h ih = closes _ _ _ (sym h) l near-bad
   turning i r seen (Event.End p) l h ih = go _ h (ltb (i + 1) n) refl
@@ -172,11 +192,11 @@ module _ (job : Job) (s n key : ℕ) (value image buffer : List ℕ) (f : Fits i
       go more h false e =
           let none : drop (i + 1) (probes key n) ≡ [] = order-end key n (i + 1) (f .shape .n-least) (ltb-false _ _ e) in
           let end : whole ≡ Looked.Through more = sym h ∙ ap (λ (rs : List ℕ). scan more key (needOf job) s image rs) none ∙ scan-end more key (needOf job) s image in
-          such s value (closes _ _ _ end l near-end) (ap (λ (rs : List ℕ). after (readsOf key s image rs) o) (sym none))
+          such s value (closes _ _ _ end l near-end) (ap (λ (asked : List Ask). after asked o) (sym (ap (readsOf key s image) none ∙ reads-none key s image)))
 
   seek-turn : (i : ℕ) (seen : Seen) (region : List ℕ) → i < n → from i seen ≡ whole
       → ((more : Seen) (region : List ℕ) → i + 1 < n → from (i + 1) more ≡ whole → seekAt (i + 1) more region) → seekAt i seen region
-  unfolding askIn advanceIn readsOf
+  unfolding askIn advanceIn
   seek-turn i seen region h e ih =
       let r : ℕ = getD (probes key n) i 0 in
       let rs : List ℕ = drop (i + 1) (probes key n) in
@@ -186,7 +206,7 @@ module _ (job : Job) (s n key : ℕ) (value image buffer : List ℕ) (f : Fits i
       such s value
       (serves-on s value (conf (seeker i seen) image region buffer) _ refl
       (turning i r seen (eventIn (regionOf s image r) (Want.Key key)) l whole-is (λ more h e. ih more (regionOf s image r) h e)))
-      (ap (λ (rs : List ℕ). after (readsOf key s image rs) o) (sym order))
+      (ap (λ (asked : List Ask). after asked o) (sym (ap (readsOf key s image) order ∙ reads-one key s image r rs)))
 
   seeking : (d i : ℕ) (seen : Seen) (region : List ℕ) → i + suc d ≡ n → from i seen ≡ whole → seekAt i seen region
   seeking zero i seen region h e = seek-turn i seen region (omega arith) e (λ more region l e. absurd (omega arith))

@@ -9,10 +9,7 @@ use Rattle.chip.specs.Chip.{erased}
 use Rattle.chip.specs.Geometry.{geometry, regionOf, eraseRegion}
 use Rattle.probe.specs.Probe.{probes}
 use Rattle.region.specs.declared.Record.{Record}
-use Rattle.region.specs.declared.Want.{Want}
-use Rattle.region.specs.declared.Event.{Event}
 use Rattle.region.specs.Record.{recordLength}
-use Rattle.region.specs.Walk.{eventIn}
 use Rattle.lookup.specs.declared.Check.{Check}
 use Rattle.lookup.specs.declared.Need.{Need}
 use Rattle.lookup.specs.declared.Room.{Room}
@@ -24,6 +21,7 @@ use Rattle.store.specs.declared.Removal.{Removal}
 use Rattle.store.specs.Store.{getOf, removalPlace, verdict, numbers, startsAnew}
 use Rattle.store.specs.Call.{Call, get, append, remove, collect, initialise, answerOf, imageAfter}
 use Rattle.steps.specs.declared.Ask.{Ask}
+use Rattle.bindings.specs.Calls.{regionsRead}
 use Rattle.runs.specs.Host.{Run, bufferOf}
 
 -- refusals 1, 2 and 3 are known before anything is read
@@ -31,16 +29,9 @@ abbrev pub unlessRefused : Check → List Ask → List Ask
 unlessRefused (Check.Refused w) asked = []
 unlessRefused Check.Fine asked = asked
 
--- a live record of the key or a bad place decides
-abbrev pub unlessDecided : Event → List Ask → List Ask
-unlessDecided (Event.Live x) asked = []
-unlessDecided (Event.Bad f o) asked = []
-unlessDecided (Event.End o) asked = asked
-
 -- "reads in probe order up to the deciding region": over the regions of a list
-unfoldable pub readsOf : ℕ → ℕ → List ℕ → List ℕ → List Ask
-readsOf key s image [] = []
-readsOf key s image (r ∷ rs) = Ask.Read r ∷ unlessDecided (eventIn (regionOf s image r) (Want.Key key)) (readsOf key s image rs)
+abbrev pub readsOf : ℕ → ℕ → List ℕ → List ℕ → List Ask
+readsOf key s image rs = map Ask.Read (regionsRead key s image rs)
 
 -- "get, reads in probe order up to the deciding region"
 abbrev pub getServices : ℕ → List ℕ → ℕ → ℕ → List Ask
