@@ -50,6 +50,13 @@ pub struct Operation {
     pub flags: u8,
 }
 
+impl Operation {
+    /// The phase of an operation that has not begun.
+    pub const PHASE_FRESH: u32 = 1;
+    /// The phase of an operation that has ended.
+    pub const PHASE_ENDED: u32 = 8;
+}
+
 /// What a start hands out.
 #[repr(C)]
 #[derive(Clone, Copy, Debug, PartialEq, Eq)]

@@ -146,12 +146,12 @@ impl Running {
 
     /// Whether the operation is fresh, so that the next step is given [`Reply::Begin`].
     pub fn is_fresh(&self) -> bool {
-        self.0.phase == 1
+        self.0.phase == Operation::PHASE_FRESH
     }
 
     /// Whether the operation has ended: its answer was given, and any further step is BadCall.
     pub fn has_ended(&self) -> bool {
-        self.0.phase == 8
+        self.0.phase == Operation::PHASE_ENDED
     }
 
     /// The operation's numbers, to look at or to keep.

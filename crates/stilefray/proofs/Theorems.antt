@@ -8,7 +8,6 @@ use mathlib.Core.Logic.{_⊎_, ⊎-elim}
 use Rattle.store.specs.declared.Answer.{Answer}
 use Rattle.store.specs.declared.Answer.the-variants.{Complete, Written, Freed, Refused}
 use lib.ListN.{getD}
-use Rattle.lookup.specs.declared.Refusal.{Refusal}
 use Rattle.store.specs.Answer.{refusal, values}
 use Rattle.steps.specs.declared.Phase.{Phase}
 use Rattle.steps.specs.declared.Op.{Op}
@@ -108,18 +107,7 @@ pub value-numbers : (answer : Answer) → answerNumbers answer .value ≡ getD (
 value-numbers (Complete len) = refl
 value-numbers Written = refl
 value-numbers (Freed bytes) = refl
-value-numbers (Refused Refusal.BadGeometry) = refl
-value-numbers (Refused Refusal.BadKey) = refl
-value-numbers (Refused Refusal.ObjectTooLarge) = refl
-value-numbers (Refused Refusal.KeyNotFound) = refl
-value-numbers (Refused Refusal.KeyAlreadyExists) = refl
-value-numbers (Refused Refusal.FlashFull) = refl
-value-numbers (Refused Refusal.UnsupportedVersion) = refl
-value-numbers (Refused Refusal.CorruptData) = refl
-value-numbers (Refused (Refusal.BufferTooSmall len)) = refl
-value-numbers (Refused Refusal.InvalidCheckSum) = refl
-value-numbers (Refused Refusal.BadCall) = refl
-value-numbers (Refused Refusal.FlashFailed) = refl
+value-numbers (Refused w) = refl
 
 -- Two answers with the same numbers are the same answer.
 pub one-answer : (a b : Answer) → answerNumbers a ≡ answerNumbers b → a ≡ b

@@ -1,27 +1,18 @@
 -- Answers and requests in numbers, as C and Rust see them.
 use Prim.Native.Nat.{ℕ}
+use lib.ListN.{getD}
 use Rattle.lookup.specs.declared.Refusal.{Refusal}
 use Rattle.lookup.specs.Refusals.{number}
 use Rattle.store.specs.declared.Answer.{Answer}
 use Rattle.store.specs.declared.Answer.the-variants.{Complete, Written, Freed, Refused}
+use Rattle.store.specs.Answer.{values}
 use Rattle.steps.specs.declared.Ask.{Ask}
 use Rattle.stilefray.specs.declared.CAnswer.{CAnswer}
 use Rattle.stilefray.specs.declared.CRequest.{CRequest}
 
--- "BufferTooSmall gives the full value length"; no other refusal gives a number.
+-- The number that a refusal gives: "BufferTooSmall gives the full value length", the others none.
 abbrev pub refusalValue : Refusal → ℕ
-refusalValue Refusal.BadGeometry = 0
-refusalValue Refusal.BadKey = 0
-refusalValue Refusal.ObjectTooLarge = 0
-refusalValue Refusal.KeyNotFound = 0
-refusalValue Refusal.KeyAlreadyExists = 0
-refusalValue Refusal.FlashFull = 0
-refusalValue Refusal.UnsupportedVersion = 0
-refusalValue Refusal.CorruptData = 0
-refusalValue (Refusal.BufferTooSmall len) = len
-refusalValue Refusal.InvalidCheckSum = 0
-refusalValue Refusal.BadCall = 0
-refusalValue Refusal.FlashFailed = 0
+refusalValue w = getD (values (Refused w)) 0 0
 
 -- An answer: 0 refused, 1 complete, 2 written, 3 freed; the refusal's number, 0 where none; what the answer carries.
 abbrev pub answerNumbers : Answer → CAnswer

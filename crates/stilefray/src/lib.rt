@@ -47,6 +47,39 @@ pub struct COperation {
     pub flags: u8,
 }
 
+// The numbers of the jobs and the phases; 0 is none of them.
+impl COperation {
+    pub const JOB_GET: u32 = 1;
+
+    pub const JOB_APPEND: u32 = 2;
+
+    pub const JOB_INVALIDATE: u32 = 3;
+
+    pub const JOB_ZEROISE: u32 = 4;
+
+    pub const JOB_COLLECT: u32 = 5;
+
+    pub const JOB_INITIALISE: u32 = 6;
+
+    pub const JOB_ANEW: u32 = 7;
+
+    pub const PHASE_FRESH: u32 = 1;
+
+    pub const PHASE_SEEK: u32 = 2;
+
+    pub const PHASE_PLACE: u32 = 3;
+
+    pub const PHASE_KILL: u32 = 4;
+
+    pub const PHASE_SWEEP: u32 = 5;
+
+    pub const PHASE_CLEAR: u32 = 6;
+
+    pub const PHASE_WIPE: u32 = 7;
+
+    pub const PHASE_ENDED: u32 = 8;
+}
+
 // A start: a refusal's number and an operation of zeros, or 0 and a running operation.
 #[repr(C)]
 pub struct CStart {

@@ -49,15 +49,15 @@ fn job_number(job: Job) -> u32
     ensures { λ r. ⌜ r ≡ jobNumber job ⌝ }
 {
     match job {
-        Job::Get(_) => 1,
-        Job::Append(_) => 2,
+        Job::Get(_) => COperation::JOB_GET,
+        Job::Append(_) => COperation::JOB_APPEND,
         Job::Remove(how) => match how {
-            Removal::Invalidate => 3,
-            Removal::Zeroise => 4,
+            Removal::Invalidate => COperation::JOB_INVALIDATE,
+            Removal::Zeroise => COperation::JOB_ZEROISE,
         },
-        Job::Collect => 5,
-        Job::Initialise => 6,
-        Job::Anew => 7,
+        Job::Collect => COperation::JOB_COLLECT,
+        Job::Initialise => COperation::JOB_INITIALISE,
+        Job::Anew => COperation::JOB_ANEW,
     }
 }
 
@@ -94,9 +94,9 @@ impl Spot {
         ensures { λ t. ⌜ t ≡ seekSpot i room ⌝ }
     {
         match room {
-            Room::Nowhere => Spot::new(2, i, 0),
+            Room::Nowhere => Spot::new(COperation::PHASE_SEEK, i, 0),
             Room::At(r, at, blank) => Spot {
-                phase: 2,
+                phase: COperation::PHASE_SEEK,
                 a: i,
                 b: r,
                 c: at,
@@ -112,14 +112,14 @@ impl Spot {
         ensures { λ t. ⌜ t ≡ spotOf phase ⌝ }
     {
         match phase {
-            Phase::Fresh => Spot::new(1, 0, 0),
+            Phase::Fresh => Spot::new(COperation::PHASE_FRESH, 0, 0),
             Phase::Seek(i, seen) => {
                 let room = seen.room;
                 Spot::of_seek(i, room)
             }
-            Phase::Place(r, o) => Spot::new(3, r, o),
+            Phase::Place(r, o) => Spot::new(COperation::PHASE_PLACE, r, o),
             Phase::Kill(r, rec) => Spot {
-                phase: 4,
+                phase: COperation::PHASE_KILL,
                 a: r,
                 b: rec.at,
                 c: rec.len,
@@ -127,10 +127,10 @@ impl Spot {
                 tag: 0,
                 flags: rec.flags,
             },
-            Phase::Sweep(i, freed) => Spot::new(5, i, freed),
-            Phase::Clear(i, freed) => Spot::new(6, i, freed),
-            Phase::Wipe(i) => Spot::new(7, i, 0),
-            Phase::Ended(_) => Spot::new(8, 0, 0),
+            Phase::Sweep(i, freed) => Spot::new(COperation::PHASE_SWEEP, i, freed),
+            Phase::Clear(i, freed) => Spot::new(COperation::PHASE_CLEAR, i, freed),
+            Phase::Wipe(i) => Spot::new(COperation::PHASE_WIPE, i, 0),
+            Phase::Ended(_) => Spot::new(COperation::PHASE_ENDED, 0, 0),
         }
     }
 }
@@ -196,25 +196,25 @@ pub fn pack_start(start: Start) -> CStart
 fn known_job(job: u32, lent: usize) -> KnownJob
     ensures { λ r. ⌜ r ≡ knownJob job lent ⌝ }
 {
-    if job == 1 {
+    if job == COperation::JOB_GET {
         return KnownJob::Known(Job::Get(lent));
     }
-    if job == 2 {
+    if job == COperation::JOB_APPEND {
         return KnownJob::Known(Job::Append(lent));
     }
-    if job == 3 {
+    if job == COperation::JOB_INVALIDATE {
         return KnownJob::Known(Job::Remove(Removal::Invalidate));
     }
-    if job == 4 {
+    if job == COperation::JOB_ZEROISE {
         return KnownJob::Known(Job::Remove(Removal::Zeroise));
     }
-    if job == 5 {
+    if job == COperation::JOB_COLLECT {
         return KnownJob::Known(Job::Collect);
     }
-    if job == 6 {
+    if job == COperation::JOB_INITIALISE {
         return KnownJob::Known(Job::Initialise);
     }
-    if job == 7 {
+    if job == COperation::JOB_ANEW {
         return KnownJob::Known(Job::Anew);
     }
     KnownJob::Unknown
@@ -245,16 +245,16 @@ fn known_seek(i: usize, tag: u32, r: usize, at: usize) -> KnownPhase
 fn known_phase(o: COperation) -> KnownPhase
     ensures { λ r. ⌜ r ≡ knownPhase o ⌝ }
 {
-    if o.phase == 1 {
+    if o.phase == COperation::PHASE_FRESH {
         return KnownPhase::Known(Phase::Fresh);
     }
-    if o.phase == 2 {
+    if o.phase == COperation::PHASE_SEEK {
         return known_seek(o.a, o.tag, o.b, o.c);
     }
-    if o.phase == 3 {
+    if o.phase == COperation::PHASE_PLACE {
         return KnownPhase::Known(Phase::Place(o.a, o.b));
     }
-    if o.phase == 4 {
+    if o.phase == COperation::PHASE_KILL {
         let rec = Record {
             at: o.b,
             len: o.c,
@@ -263,13 +263,13 @@ fn known_phase(o: COperation) -> KnownPhase
         };
         return KnownPhase::Known(Phase::Kill(o.a, rec));
     }
-    if o.phase == 5 {
+    if o.phase == COperation::PHASE_SWEEP {
         return KnownPhase::Known(Phase::Sweep(o.a, o.b));
     }
-    if o.phase == 6 {
+    if o.phase == COperation::PHASE_CLEAR {
         return KnownPhase::Known(Phase::Clear(o.a, o.b));
     }
-    if o.phase == 7 {
+    if o.phase == COperation::PHASE_WIPE {
         return KnownPhase::Known(Phase::Wipe(o.a));
     }
     KnownPhase::Unknown
