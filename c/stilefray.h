@@ -53,26 +53,37 @@ extern "C" {
 #define STILEFRAY_WRITTEN 2
 #define STILEFRAY_FREED 3
 
-/* A running operation's job. */
-#define STILEFRAY_JOB_NONE 0
-#define STILEFRAY_JOB_GET 1
-#define STILEFRAY_JOB_APPEND 2
-#define STILEFRAY_JOB_INVALIDATE 3
-#define STILEFRAY_JOB_ZEROISE 4
-#define STILEFRAY_JOB_COLLECT 5
-#define STILEFRAY_JOB_INITIALISE 6
-#define STILEFRAY_JOB_ANEW 7 /* initialise that has erased the chip, and appends the main key */
+/* Which numbers an operation has, and where: another version of the library may number it otherwise. */
+#define STILEFRAY_LAYOUT 8
 
-/* A running operation's phase: what it last asked for. */
-#define STILEFRAY_PHASE_NONE 0
-#define STILEFRAY_PHASE_FRESH 1 /* nothing yet */
-#define STILEFRAY_PHASE_SEEK 2  /* a region of the key's probe order is being read */
-#define STILEFRAY_PHASE_PLACE 3 /* a new record is being written */
-#define STILEFRAY_PHASE_KILL 4  /* a record is being made dead */
-#define STILEFRAY_PHASE_SWEEP 5 /* collect: a region is being read */
-#define STILEFRAY_PHASE_CLEAR 6 /* collect: a region is being erased */
-#define STILEFRAY_PHASE_WIPE 7  /* initialise: a region is being erased */
-#define STILEFRAY_PHASE_ENDED 8 /* its answer was given; a further step is BadCall */
+/* What is lent to a running operation beside the region buffer. */
+#define STILEFRAY_LENT_NOTHING 0
+#define STILEFRAY_LENT_VALUE 1  /* append's value */
+#define STILEFRAY_LENT_BUFFER 2 /* get's buffer */
+
+/* A running operation's edit: what is to be written or erased. It comes before what is next. */
+#define STILEFRAY_EDIT_NONE 0
+#define STILEFRAY_EDIT_LAY 1        /* a new record is being written */
+#define STILEFRAY_EDIT_INVALIDATE 2 /* a record is being made dead */
+#define STILEFRAY_EDIT_ZEROISE 3    /* a record is being made dead and its value zeros */
+#define STILEFRAY_EDIT_ERASE 4      /* a region is being erased */
+#define STILEFRAY_EDIT_ERASES 5     /* regions are being erased, one after the other */
+
+/* What follows a running operation's edit, or is under way where no edit is left. */
+#define STILEFRAY_NEXT_NONE 0     /* nothing that runs */
+#define STILEFRAY_NEXT_SEEK 1     /* a region of the key's probe order is being read */
+#define STILEFRAY_NEXT_SWEEP 2    /* collect: a region is being read */
+#define STILEFRAY_NEXT_COMPLETE 3 /* the answer COMPLETE */
+#define STILEFRAY_NEXT_WRITTEN 4  /* the answer WRITTEN */
+#define STILEFRAY_NEXT_FREED 5    /* the answer FREED */
+#define STILEFRAY_NEXT_ENDED 6    /* its answer was given; a further step is BAD_CALL */
+
+/* What a running operation seeks its key for. */
+#define STILEFRAY_AIM_GET 1
+#define STILEFRAY_AIM_APPEND 2 /* also initialise that erases the chip and appends the main key */
+#define STILEFRAY_AIM_INVALIDATE 3
+#define STILEFRAY_AIM_ZEROISE 4
+#define STILEFRAY_AIM_INITIALISE 5
 
 /* What the host says to a step. */
 #define STILEFRAY_BEGIN 0     /* the first step, and only the first */
@@ -94,22 +105,31 @@ typedef struct {
 } stilefray_answer;
 
 /*
- * A running operation. It is plain data: it holds no pointer, may be copied, and may be kept and taken up again later. Numbers that a
- * job or a phase does not use are 0. It is there to be handed back to stilefray_step as it came; to read it is harmless.
+ * A running operation. It is plain data: it holds no pointer, may be copied, and may be kept and taken up again later, with the region
+ * buffer of its last step: where it waits for a write, the bytes to write are there. Numbers that it does not use are 0. It is there to
+ * be handed back to stilefray_step as it came; to read it is harmless.
  */
 typedef struct {
-    uint32_t job;   /* STILEFRAY_JOB_.. */
-    uint32_t phase; /* STILEFRAY_PHASE_.. */
-    size_t s;       /* the bytes of a region */
-    size_t n;       /* how many regions there are */
-    uint64_t key;   /* the key; collect, which has none, keeps 1 here */
-    size_t lent;    /* get: the length of the buffer that is lent; append: of the value; else 0 */
-    size_t a;       /* seek: the index in the probe order, from 0; place, kill, sweep, clear, wipe: the region */
-    size_t b;       /* seek: the region with room; place, kill: the record's place in its region; sweep, clear: bytes freed before it */
-    size_t c;       /* seek: the place of the room in its region; kill: the record's length */
-    uint64_t found; /* kill: the record's key */
-    uint32_t tag;   /* seek: 0 no room yet, 1 room that is not blank, 2 blank room */
-    uint8_t flags;  /* kill: the record's flags */
+    uint32_t layout; /* STILEFRAY_LAYOUT; one of another layout, such as a host kept over an update of the library, is BAD_CALL */
+    uint32_t fresh;  /* 1 nothing was asked for yet, else 0 */
+    uint32_t lent;   /* STILEFRAY_LENT_.. */
+    uint32_t edit;   /* STILEFRAY_EDIT_.. */
+    uint32_t next;   /* STILEFRAY_NEXT_.. */
+    uint32_t aim;    /* seek: STILEFRAY_AIM_.. */
+    uint32_t tag;    /* seek: 0 no room gathered, 1 room that is not blank, 2 blank room */
+    uint8_t version; /* invalidate, zeroise: the record's version */
+    uint8_t flags;   /* invalidate, zeroise: the record's flags */
+    size_t s;        /* the bytes of a region */
+    size_t n;        /* how many regions there are */
+    uint64_t key;    /* the key; collect, which has none, keeps 1 here */
+    size_t len;      /* the length of what is lent, named at the start */
+    size_t region;   /* the edit's region; erases: the next one to erase, or `at` or more where none is left */
+    size_t at;       /* lay, invalidate, zeroise: the record's place in its region; erases: the region after the last to erase */
+    size_t size;     /* invalidate, zeroise: the record's length */
+    uint64_t found;  /* invalidate, zeroise: the record's key */
+    size_t a;        /* seek: the index in the probe order, from 0; sweep: the region; complete: the length; freed: the bytes */
+    size_t b;        /* seek: the region with room; sweep: how many regions were erased before this one */
+    size_t c;        /* seek: the place of the room in its region */
 } stilefray_operation;
 
 /* What a start hands out. */
@@ -200,9 +220,9 @@ uint32_t stilefray_checksum(const uint8_t *bytes, size_t len);
 
 /*
  * A start hands out a fresh running operation, or refuses and runs nothing: BAD_GEOMETRY, BAD_KEY (not collect), OBJECT_TOO_LARGE (only
- * append), in this order. `room` is the length of the buffer that get will be lent at each step, `length` that of append's value.
+ * append), in this order. `capacity` is the length of the buffer that get will be lent at each step, `length` that of append's value.
  */
-stilefray_start stilefray_start_get(size_t s, size_t n, uint64_t key, size_t room);
+stilefray_start stilefray_start_get(size_t s, size_t n, uint64_t key, size_t capacity);
 stilefray_start stilefray_start_append(size_t s, size_t n, uint64_t key, size_t length);
 stilefray_start stilefray_start_invalidate(size_t s, size_t n, uint64_t key);
 stilefray_start stilefray_start_zeroise(size_t s, size_t n, uint64_t key);
@@ -234,10 +254,11 @@ stilefray_start stilefray_start_initialise(size_t s, size_t n, uint64_t key);
  * The reply NOT_READY repeats the request: it hands back op as it was, and the same request, and alters nothing.
  *
  * BAD_CALL: region_len is not s; append's value_len or get's buffer_len is not the length named at the start; BEGIN at any but the first
- * step, or another reply at the first; a reply that is none of the four; a step after the end; or an op that is no running operation, or
- * breaks the rule which every one handed back by a start or a step keeps (s, n, key and length allowed, the phase one of the job's,
- * every region below n, every place to write within a region, and 0 in each number that is not used). It hands op back as it was and
- * alters no buffer, so the host may put its mistake right and step again. It is tried first.
+ * step, or another reply at the first; a reply that is none of the four; a step after the end; an op of another layout; or an op that is
+ * no running operation, or breaks the rule which every one handed back by a start or a step keeps (s, n, key and the value's length
+ * allowed, what is lent of the kind that the aim wants, every region to read, write or erase below n, every place to write within a
+ * region, and 0 in each number that is not used). It hands op back as it was and alters no buffer, so the host may put its mistake right
+ * and step again. It is tried first.
  *
  * FLASH_FAILED: the reply was FAILED. The operation has ended; services done before stay done, and no buffer is altered.
  */

@@ -26,22 +26,30 @@ FILLS(answer, 16);
 LIES(answer, kind, 0, 4);
 LIES(answer, refusal, 4, 4);
 LIES(answer, value, 8, 8);
-FILLS(operation, 80);
-LIES(operation, job, 0, 4);
-LIES(operation, phase, 4, 4);
-LIES(operation, s, 8, 8);
-LIES(operation, n, 16, 8);
-LIES(operation, key, 24, 8);
-LIES(operation, lent, 32, 8);
-LIES(operation, a, 40, 8);
-LIES(operation, b, 48, 8);
-LIES(operation, c, 56, 8);
-LIES(operation, found, 64, 8);
-LIES(operation, tag, 72, 4);
-LIES(operation, flags, 76, 1);
-FILLS(start, 88);
+FILLS(operation, 120);
+LIES(operation, layout, 0, 4);
+LIES(operation, fresh, 4, 4);
+LIES(operation, lent, 8, 4);
+LIES(operation, edit, 12, 4);
+LIES(operation, next, 16, 4);
+LIES(operation, aim, 20, 4);
+LIES(operation, tag, 24, 4);
+LIES(operation, version, 28, 1);
+LIES(operation, flags, 29, 1);
+LIES(operation, s, 32, 8);
+LIES(operation, n, 40, 8);
+LIES(operation, key, 48, 8);
+LIES(operation, len, 56, 8);
+LIES(operation, region, 64, 8);
+LIES(operation, at, 72, 8);
+LIES(operation, size, 80, 8);
+LIES(operation, found, 88, 8);
+LIES(operation, a, 96, 8);
+LIES(operation, b, 104, 8);
+LIES(operation, c, 112, 8);
+FILLS(start, 128);
 LIES(start, refusal, 0, 4);
-LIES(start, op, 8, 80);
+LIES(start, op, 8, 120);
 FILLS(request, 56);
 LIES(request, kind, 0, 4);
 LIES(request, region, 8, 8);
@@ -49,9 +57,9 @@ LIES(request, from, 16, 8);
 LIES(request, to, 24, 8);
 LIES(request, place, 32, 8);
 LIES(request, answer, 40, 16);
-FILLS(stepped, 136);
-LIES(stepped, op, 0, 80);
-LIES(stepped, request, 80, 56);
+FILLS(stepped, 176);
+LIES(stepped, op, 0, 120);
+LIES(stepped, request, 120, 56);
 
 enum { S = 64, N = 4, CHIP = 256 };
 
@@ -75,6 +83,10 @@ static int written(stilefray_answer answer) { return is(answer, STILEFRAY_WRITTE
 static int all(const uint8_t *bytes, size_t len, uint8_t byte) {
     while (len > 0 && bytes[len - 1] == byte) len--;
     return len == 0;
+}
+/* All but the two bytes of padding after the flags. */
+static int same_op(stilefray_operation x, stilefray_operation y) {
+    return memcmp(&x, &y, 30) == 0 && memcmp(&x.s, &y.s, 88) == 0;
 }
 static void erase_chip(void) { memset(chip, 255, CHIP); }
 static stilefray_answer get(uint64_t key, uint8_t *buffer, size_t len) { return stilefray_get_key(chip, CHIP, S, N, key, buffer, len); }
@@ -139,12 +151,12 @@ static void refusals_1_to_3(void) {
     CHECK(refused(stilefray_get_key(chip, CHIP, 63, N, 0, one, 1), STILEFRAY_BAD_GEOMETRY));
     CHECK(refused(stilefray_get_key(chip, CHIP - 1, S, N, 0, one, 1), STILEFRAY_BAD_GEOMETRY));
     CHECK(refused(get(0, one, 1), STILEFRAY_BAD_KEY) && refused(get(UINT64_MAX, one, 1), STILEFRAY_BAD_KEY));
-    CHECK(start.refusal == STILEFRAY_OBJECT_TOO_LARGE && memcmp(&start.op, &none, 77) == 0);
+    CHECK(start.refusal == STILEFRAY_OBJECT_TOO_LARGE && same_op(start.op, none));
     CHECK(stilefray_start_append(S, N, 0, 4080).refusal == STILEFRAY_BAD_KEY);
     CHECK(stilefray_start_get(S, 65, 0, 1).refusal == STILEFRAY_BAD_GEOMETRY);
     CHECK(stilefray_start_collect(S, 0).refusal == STILEFRAY_BAD_GEOMETRY);
     CHECK(stilefray_start_collect(S, N).refusal == 0);
-    CHECK(stilefray_start_get(S, N, UINT64_MAX - 1, SIZE_MAX).op.lent == SIZE_MAX);
+    CHECK(stilefray_start_get(S, N, UINT64_MAX - 1, SIZE_MAX).op.len == SIZE_MAX);
     CHECK(stilefray_start_get(S, N, UINT64_MAX - 1, SIZE_MAX).op.key == UINT64_MAX - 1);
     CHECK(stilefray_start_invalidate(S, N, 0).refusal == STILEFRAY_BAD_KEY);
     CHECK(stilefray_start_zeroise(S, N, 0).refusal == STILEFRAY_BAD_KEY);
@@ -171,7 +183,7 @@ static void serve(stilefray_request request) {
 
 static int same(stilefray_stepped a, stilefray_stepped b) {
     const stilefray_request *q = &a.request, *r = &b.request;
-    return memcmp(&a.op, &b.op, 77) == 0 && q->kind == r->kind && q->region == r->region && q->from == r->from && q->to == r->to &&
+    return same_op(a.op, b.op) && q->kind == r->kind && q->region == r->region && q->from == r->from && q->to == r->to &&
            q->place == r->place && is(q->answer, r->answer.kind, r->answer.refusal, r->answer.value);
 }
 
@@ -181,7 +193,7 @@ static stilefray_answer drive(stilefray_start start, const uint8_t *value, size_
     uint8_t before[S];
     int i;
     did[0] = 0;
-    CHECK(start.refusal == 0 && start.op.phase == STILEFRAY_PHASE_FRESH);
+    CHECK(start.refusal == 0 && start.op.layout == STILEFRAY_LAYOUT && start.op.fresh == 1);
     now = stilefray_step(start.op, STILEFRAY_BEGIN, region, S, value, value_len, buffer, buffer_len);
     while (now.request.kind != STILEFRAY_ANSWER) {
         memcpy(before, region, S);
@@ -190,14 +202,14 @@ static stilefray_answer drive(stilefray_start start, const uint8_t *value, size_
             CHECK(same(again, now));
         }
         again = stilefray_step(now.op, STILEFRAY_FAILED, region, S - 1, value, value_len, buffer, buffer_len);
-        CHECK(refused(again.request.answer, STILEFRAY_BAD_CALL) && memcmp(&again.op, &now.op, 77) == 0);
+        CHECK(refused(again.request.answer, STILEFRAY_BAD_CALL) && same_op(again.op, now.op));
         CHECK(memcmp(before, region, S) == 0);
         serve(now.request);
         now = stilefray_step(now.op, STILEFRAY_DONE, region, S, value, value_len, buffer, buffer_len);
     }
-    CHECK(now.op.phase == STILEFRAY_PHASE_ENDED);
+    CHECK(now.op.next == STILEFRAY_NEXT_ENDED && now.op.fresh == 0);
     again = stilefray_step(now.op, STILEFRAY_DONE, region, S, value, value_len, buffer, buffer_len);
-    CHECK(refused(again.request.answer, STILEFRAY_BAD_CALL) && memcmp(&again.op, &now.op, 77) == 0);
+    CHECK(refused(again.request.answer, STILEFRAY_BAD_CALL) && same_op(again.op, now.op));
     return now.request.answer;
 }
 
@@ -221,25 +233,97 @@ static void runs(void) {
 }
 
 static void bad_calls(void) {
-    stilefray_operation op = stilefray_start_get(S, N, 1, 1).op, forged = op;
+    stilefray_operation op = stilefray_start_get(S, N, 1, 1).op;
     stilefray_stepped now;
     uint32_t reply;
     for (reply = 1; reply < 6; reply++)
         CHECK(refused(stilefray_step(op, reply, region, S, one, 0, one, 1).request.answer, STILEFRAY_BAD_CALL));
     CHECK(refused(stilefray_step(op, STILEFRAY_BEGIN, region, S, one, 0, one, 0).request.answer, STILEFRAY_BAD_CALL));
     now = stilefray_step(op, STILEFRAY_BEGIN, region, S, one, 0, one, 1);
-    CHECK(now.request.kind == STILEFRAY_READ && now.request.region == 1 && now.op.phase == STILEFRAY_PHASE_SEEK);
+    CHECK(now.request.kind == STILEFRAY_READ && now.request.region == 1);
+    CHECK(now.op.fresh == 0 && now.op.next == STILEFRAY_NEXT_SEEK && now.op.aim == STILEFRAY_AIM_GET);
     CHECK(refused(stilefray_step(now.op, STILEFRAY_BEGIN, region, S, one, 0, one, 1).request.answer, STILEFRAY_BAD_CALL));
     now = stilefray_step(now.op, STILEFRAY_FAILED, region, S, one, 0, one, 1);
-    CHECK(refused(now.request.answer, STILEFRAY_FLASH_FAILED) && now.op.phase == STILEFRAY_PHASE_ENDED);
-    for (forged.job = 0; forged.job < 10; forged.job++) {
-        /* the lent length is get's and append's; for the other jobs any but 0 is a number too many */
-        forged.lent = 1;
-        now = stilefray_step(forged, STILEFRAY_BEGIN, region, S, sevens, 1, one, 1);
-        CHECK((now.request.kind == STILEFRAY_READ) == (forged.job == STILEFRAY_JOB_GET || forged.job == STILEFRAY_JOB_APPEND));
-        forged.lent = 0;
-        now = stilefray_step(forged, STILEFRAY_BEGIN, region, S, sevens, 0, one, 0);
-        CHECK((now.request.kind == STILEFRAY_READ) == (1 <= forged.job && forged.job <= 7));
+    CHECK(refused(now.request.answer, STILEFRAY_FLASH_FAILED) && now.op.next == STILEFRAY_NEXT_ENDED);
+}
+
+/* A fresh operation that no start handed out begins with a request of this kind; for ANSWER it is BAD_CALL, and comes back as it was. */
+static void begins(stilefray_operation op, uint32_t kind) {
+    stilefray_stepped now = stilefray_step(op, STILEFRAY_BEGIN, region, S, sevens, 1, one, 1);
+    CHECK(now.request.kind == kind);
+    CHECK(kind != STILEFRAY_ANSWER || (refused(now.request.answer, STILEFRAY_BAD_CALL) && same_op(now.op, op)));
+}
+
+/* Whether this is lent for the aim. */
+static int lent_for(uint32_t aim, uint32_t lent) {
+    switch (aim) {
+    case STILEFRAY_AIM_GET: return lent == STILEFRAY_LENT_BUFFER;
+    case STILEFRAY_AIM_APPEND: return lent == STILEFRAY_LENT_VALUE || lent == STILEFRAY_LENT_NOTHING;
+    case STILEFRAY_AIM_INVALIDATE:
+    case STILEFRAY_AIM_ZEROISE:
+    case STILEFRAY_AIM_INITIALISE: return lent == STILEFRAY_LENT_NOTHING;
+    default: return 0;
+    }
+}
+
+/* Every number of what is next, of the aim and of what is lent. */
+static void forged_seeks(void) {
+    stilefray_operation op = stilefray_start_invalidate(S, N, 1).op;
+    for (op.next = 0; op.next < 9; op.next++)
+        for (op.aim = 0; op.aim < 8; op.aim++)
+            for (op.lent = 0; op.lent < 5; op.lent++) {
+                int seeks = op.next == STILEFRAY_NEXT_SEEK && lent_for(op.aim, op.lent);
+                int sweeps = op.next == STILEFRAY_NEXT_SWEEP && op.aim == 0 && op.lent <= STILEFRAY_LENT_BUFFER;
+                op.len = op.lent != STILEFRAY_LENT_NOTHING;
+                begins(op, seeks || sweeps ? STILEFRAY_READ : STILEFRAY_ANSWER);
+                op.len = op.lent == STILEFRAY_LENT_NOTHING; /* a number too many, or another length than that of what is lent */
+                begins(op, STILEFRAY_ANSWER);
+            }
+}
+
+/* Every number of the edit, with places that fit and that do not. */
+static void forged_edits(void) {
+    static const uint32_t kinds[8] = {STILEFRAY_ANSWER, STILEFRAY_WRITE, STILEFRAY_WRITE,  STILEFRAY_WRITE,
+                                      STILEFRAY_ERASE,  STILEFRAY_ERASE, STILEFRAY_ANSWER, STILEFRAY_ANSWER};
+    stilefray_operation op = stilefray_start_collect(S, N).op;
+    for (op.next = 0; op.next < 9; op.next++)
+        for (op.edit = 0; op.edit < 8; op.edit++) {
+            int removes = op.edit == STILEFRAY_EDIT_INVALIDATE || op.edit == STILEFRAY_EDIT_ZEROISE;
+            int goes_on = STILEFRAY_NEXT_SWEEP <= op.next && op.next <= STILEFRAY_NEXT_FREED;
+            int sweeps = op.next == STILEFRAY_NEXT_SWEEP;
+            op.at = op.edit == STILEFRAY_EDIT_ERASES ? N : 0;
+            op.size = removes ? 64 : 0;
+            begins(op, sweeps && op.edit == STILEFRAY_EDIT_NONE ? STILEFRAY_READ : goes_on ? kinds[op.edit] : STILEFRAY_ANSWER);
+            op.size = removes ? 65 : 64;
+            begins(op, STILEFRAY_ANSWER);
+            op.size = removes ? 15 : 0;
+            op.at = 49;
+            begins(op, goes_on && kinds[op.edit] == STILEFRAY_WRITE ? STILEFRAY_WRITE : STILEFRAY_ANSWER);
+            op.at = 50;
+            begins(op, STILEFRAY_ANSWER);
+            op.at = 0;
+            op.region = N; /* no region; for erases none is left to erase */
+            begins(op, sweeps && op.edit == STILEFRAY_EDIT_ERASES ? STILEFRAY_READ : STILEFRAY_ANSWER);
+            op.region = 0;
+        }
+}
+
+/* An operation of another layout, such as a host kept over an update of the library. */
+static void forged_layouts(void) {
+    static const uint32_t others[] = {0, 1, 3, 4, UINT32_MAX};
+    stilefray_operation op = stilefray_start_append(S, N, 1, 1).op;
+    stilefray_stepped now = stilefray_step(op, STILEFRAY_BEGIN, region, S, sevens, 1, one, 1);
+    uint32_t reply;
+    size_t i;
+    begins(op, STILEFRAY_READ);
+    for (i = 0; i < sizeof others / sizeof others[0]; i++) {
+        op.layout = others[i];
+        begins(op, STILEFRAY_ANSWER);
+        now.op.layout = others[i];
+        for (reply = 0; reply < 5; reply++) {
+            stilefray_stepped again = stilefray_step(now.op, reply, region, S, sevens, 1, one, 1);
+            CHECK(refused(again.request.answer, STILEFRAY_BAD_CALL) && same_op(again.op, now.op));
+        }
     }
 }
 
@@ -252,6 +336,9 @@ int main(void) {
     refusals_1_to_3();
     runs();
     bad_calls();
+    forged_seeks();
+    forged_edits();
+    forged_layouts();
     printf("%d checks passed\n", checks);
     return 0;
 }

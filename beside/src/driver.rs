@@ -108,8 +108,8 @@ fn operation(
     counts: &mut Counts,
 ) -> Result<(), String> {
     let call = call(rng, s, stretch);
-    let room = rng.pick(&[0, 1, 3, 20, s, 4_096]);
-    let fill = &stretch[..if matches!(call, Call::Get { .. }) { room } else { rng.below(3) }];
+    let buffer_len = rng.pick(&[0, 1, 3, 20, s, 4_096]);
+    let fill = &stretch[..if matches!(call, Call::Get { .. }) { buffer_len } else { rng.below(3) }];
     let slow = rng.pick(&[0, 2, 3, 10]);
     let fails_at = rng.one_in(3).then(|| rng.below(2 * n + 2));
     let want = wanted(image, s, n, call, fill, fails_at);

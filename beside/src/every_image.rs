@@ -31,7 +31,7 @@ fn call<'a>(rng: &mut Prng, s: usize, stretch: &'a [u8]) -> Call<'a> {
     }
 }
 
-fn room(rng: &mut Prng, s: usize) -> usize {
+fn buffer_len(rng: &mut Prng, s: usize) -> usize {
     match rng.below(6) {
         0 => 0,
         1 => rng.below(4),
@@ -81,8 +81,8 @@ fn image(rng: &mut Prng, kind: Kind, stretch: &[u8], tally: &mut Tally) -> Resul
     let mut pair = Pair { s, n, ours: bytes.clone(), straight: bytes };
     for _ in 0..CALLS_AN_IMAGE {
         let next = call(rng, s, stretch);
-        let room = room(rng, s);
-        compare(&mut pair, next, &stretch[..room], tally)?;
+        let buffer_len = buffer_len(rng, s);
+        compare(&mut pair, next, &stretch[..buffer_len], tally)?;
     }
     Ok(())
 }
@@ -101,8 +101,8 @@ fn wrong_geometry(rng: &mut Prng, stretch: &[u8], tally: &mut Tally) -> Result<(
     let mut pair = Pair { s, n, ours: bytes.clone(), straight: bytes };
     for _ in 0..3 {
         let next = call(rng, 64, stretch);
-        let room = room(rng, 64);
-        compare(&mut pair, next, &stretch[..room], tally)?;
+        let buffer_len = buffer_len(rng, 64);
+        compare(&mut pair, next, &stretch[..buffer_len], tally)?;
     }
     Ok(())
 }

@@ -137,9 +137,9 @@ fn history(
         if spoilt && rng.one_in(8) {
             spoil(&mut rng, &mut chips);
         }
-        let (next, room) = habit.next(&mut rng, stretch, &chips.straight, s, n);
-        let from = rng.below(STRETCH - room);
-        buffers.fill(&stretch[from..from + room]);
+        let (next, buffer_len) = habit.next(&mut rng, stretch, &chips.straight, s, n);
+        let from = rng.below(STRETCH - buffer_len);
+        buffers.fill(&stretch[from..from + buffer_len]);
         call(&mut chips, &mut buffers, next, tally)
             .map_err(|what| format!("history {seed}, step {step}\n{what}"))?;
         if !spoilt && step % 97 == 0 && !well_formed(&chips.straight, s, n) {

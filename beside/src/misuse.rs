@@ -91,17 +91,30 @@ fn no_reply(running: Running, lent: &Lent) -> Result<u64, String> {
     Ok(3)
 }
 
-/// Numbers that no start and no step hands out: out of bounds where the phase
-/// uses them, and not 0 where it does not.
+/// Numbers that no start and no step hands out: out of bounds where they are
+/// used, and not 0 where they are not.
 fn broken(rng: &mut Prng, mut op: Operation) -> Operation {
-    match rng.below(7) {
-        0 => op.tag = rng.pick(&[3, 4, 77, u32::MAX]),
-        1 => op.a = rng.pick(&[op.n, 64, usize::MAX]),
-        2 => op.key = rng.pick(&[0, u64::MAX]),
-        3 => op.s = rng.pick(&[0, 63, 4_097, usize::MAX]),
-        4 => op.n = rng.pick(&[0, 65, usize::MAX]),
-        5 => op.phase = rng.pick(&[0, 9, u32::MAX]),
-        _ => op.job = rng.pick(&[0, 8, 9, u32::MAX]),
+    const NEXT_FREED: u32 = 5;
+    const EDIT_ERASES: u32 = 5;
+    match rng.below(15) {
+        0 => op.layout = rng.pick(&[0, 1, 3, u32::MAX]),
+        1 => op.fresh = rng.pick(&[2, 3, 77, u32::MAX]),
+        2 => op.lent = rng.pick(&[3, 4, 77, u32::MAX]),
+        3 => op.edit = rng.pick(&[6, 7, 77, u32::MAX]),
+        4 => op.next = rng.pick(&[0, 6, 7, u32::MAX]),
+        5 => op.aim = rng.pick(&[6, 7, 77, u32::MAX]),
+        6 => op.tag = rng.pick(&[3, 4, 77, u32::MAX]),
+        7 => op.s = rng.pick(&[0, 63, 4_097, usize::MAX]),
+        8 => op.n = rng.pick(&[0, 65, usize::MAX]),
+        9 => op.key = rng.pick(&[0, u64::MAX]),
+        // A run of erases that begins past its end is an empty one.
+        10 if op.edit != EDIT_ERASES => op.region = rng.pick(&[op.n, 64, usize::MAX]),
+        10 | 11 => op.at = rng.pick(&[op.s + 1, usize::MAX - 14, usize::MAX]),
+        12 => op.size = rng.pick(&[14, 4_096, usize::MAX]),
+        // Any number of bytes may have been freed.
+        13 if op.next != NEXT_FREED => op.a = rng.pick(&[op.n, 64, usize::MAX]),
+        13 => op.b = rng.pick(&[64, usize::MAX]),
+        _ => op.c = rng.pick(&[op.s - 14, op.s, usize::MAX]),
     }
     op
 }
@@ -109,17 +122,27 @@ fn broken(rng: &mut Prng, mut op: Operation) -> Operation {
 /// Any number of the operation altered at random.
 fn altered(rng: &mut Prng, mut op: Operation) -> Operation {
     let small = rng.below(70);
-    match rng.below(10) {
-        0 => op.job = rng.below(9) as u32,
-        1 => op.phase = rng.below(10) as u32,
-        2 => op.s = rng.pick(&[64, 65, 80, 4_096]),
-        3 => op.n = 1 + rng.below(64),
-        4 => op.lent = rng.pick(&[0, small, 4_079, 4_080]),
-        5 => op.a = small,
-        6 => op.b = rng.pick(&[small, op.s, op.s - 1, op.s * 3]),
-        7 => op.c = rng.pick(&[small, op.s, 14, 15, usize::MAX]),
-        8 => op.tag = rng.below(4) as u32,
-        _ => op.flags = rng.below(17) as u8,
+    match rng.below(20) {
+        0 => op.layout = rng.below(4) as u32,
+        1 => op.fresh = rng.below(3) as u32,
+        2 => op.lent = rng.below(4) as u32,
+        3 => op.edit = rng.below(7) as u32,
+        4 => op.next = rng.below(8) as u32,
+        5 => op.aim = rng.below(7) as u32,
+        6 => op.tag = rng.below(4) as u32,
+        7 => op.version = rng.below(3) as u8,
+        8 => op.flags = rng.below(17) as u8,
+        9 => op.s = rng.pick(&[64, 65, 80, 4_096]),
+        10 => op.n = 1 + rng.below(64),
+        11 => op.key = rng.next(),
+        12 => op.len = rng.pick(&[0, small, 4_079, 4_080]),
+        13 => op.region = small,
+        14 => op.at = rng.pick(&[small, op.s, op.s - 15, op.s - 14]),
+        15 => op.size = rng.pick(&[small, op.s, 14, 15, usize::MAX]),
+        16 => op.found = rng.next(),
+        17 => op.a = small,
+        18 => op.b = small,
+        _ => op.c = rng.pick(&[small, op.s, op.s - 15, usize::MAX]),
     }
     op
 }

@@ -71,12 +71,12 @@ fn line(
     s: usize,
     n: usize,
     call: Call,
-    room: usize,
+    buffer_len: usize,
     seed: u64,
 ) -> Option<String> {
     let lent = match call {
         Call::Append { value, .. } => value.len(),
-        _ => room,
+        _ => buffer_len,
     };
     let value = pattern(seed, lent);
     let call = match call {
@@ -86,7 +86,7 @@ fn line(
     if touches(image, s, n, call).is_some() {
         return None;
     }
-    let mut buffer = pattern(seed, room);
+    let mut buffer = pattern(seed, buffer_len);
     let Seen::Answered(outcome) = crate_side::run(image, s, call, &mut buffer) else {
         panic!("the crate left the domain at {call:?}");
     };
@@ -110,12 +110,12 @@ fn chip(rng: &mut Prng, s: usize, n: usize, stretch: &[u8]) {
         if rng.one_in(50) {
             habit = Habit::new(rng, s, n);
         }
-        let (call, room) = habit.next(rng, stretch, &image, s, n);
+        let (call, buffer_len) = habit.next(rng, stretch, &image, s, n);
         let seed = match call {
             Call::Get { .. } | Call::Append { .. } => rng.below(256) as u64,
             _ => 0,
         };
-        if let Some(text) = line(&mut image, s, n, call, room, seed) {
+        if let Some(text) = line(&mut image, s, n, call, buffer_len, seed) {
             println!("{text}");
             written += 1;
         }

@@ -8,9 +8,9 @@ use crate::straight::{Call, Outcome};
 use stilefray::stepped::{Reply, Request, Running};
 use stilefray::{Flash, NotDone, Refusal};
 
-pub fn start(s: usize, n: usize, call: Call, room: usize) -> Result<Running, Refusal> {
+pub fn start(s: usize, n: usize, call: Call, buffer_len: usize) -> Result<Running, Refusal> {
     match call {
-        Call::Get { key } => Running::get_key(s, n, key, room),
+        Call::Get { key } => Running::get_key(s, n, key, buffer_len),
         Call::Append { key, value } => Running::append_key(s, n, key, value.len()),
         Call::Invalidate { key } => Running::invalidate_key(s, n, key),
         Call::Zeroise { key } => Running::zeroise_key(s, n, key),

@@ -20,41 +20,60 @@ pub struct AnswerNumbers {
     pub value: usize,
 }
 
-/// A running operation in numbers: what [`Running`](crate::stepped::Running) keeps. Numbers that a job or a phase does not use are 0.
+/// A running operation in numbers: what [`Running`](crate::stepped::Running) keeps. It has an edit to do, or none, and what is next after
+/// it. Numbers that it does not use are 0.
 #[repr(C)]
 #[derive(Clone, Copy, Debug, PartialEq, Eq)]
 pub struct Operation {
-    /// 0 none, 1 get, 2 append, 3 invalidate, 4 zeroise, 5 collect, 6 initialise, 7 initialise that has erased the chip and appends.
-    pub job: u32,
-    /// 0 none, 1 fresh, 2 seek, 3 place, 4 kill, 5 sweep, 6 clear, 7 wipe, 8 ended.
-    pub phase: u32,
+    /// Which numbers these are: [`Operation::LAYOUT`]. One of another layout, such as a host kept over an update of the library, is
+    /// answered by BadCall.
+    pub layout: u32,
+    /// 1: nothing was asked for yet. Else 0.
+    pub fresh: u32,
+    /// What is lent beside the region buffer: 0 nothing, 1 append's value, 2 get's buffer.
+    pub lent: u32,
+    /// What is to be written or erased: 0 none, 1 lay (a new record is written), 2 invalidate, 3 zeroise, 4 erase, 5 erases.
+    pub edit: u32,
+    /// What follows the edit: 0 nothing that runs, 1 seek (a region of the probe order is read), 2 sweep (collect reads a region), the
+    /// answers 3 complete, 4 written and 5 freed; 6 ended.
+    pub next: u32,
+    /// Seek: 1 get, 2 append (also initialise's), 3 invalidate, 4 zeroise, 5 initialise.
+    pub aim: u32,
+    /// Seek: 0 no room gathered, 1 room that is not blank, 2 blank room.
+    pub tag: u32,
+    /// Invalidate, zeroise: the record's version.
+    pub version: u8,
+    /// Invalidate, zeroise: the record's flags.
+    pub flags: u8,
     /// The bytes of a region.
     pub s: usize,
     /// How many regions there are.
     pub n: usize,
     /// The key; collect, which has none, keeps 1 here.
     pub key: u64,
-    /// Get: the length of the buffer that is lent. Append: of the value that is lent. Else 0.
-    pub lent: usize,
-    /// Seek: which region of the probe order is being read, counted from 0. Else the number of the region in hand.
-    pub a: usize,
-    /// Seek: the region with room. Place, kill: the record's place in its region. Sweep, clear: the bytes freed before this region.
-    pub b: usize,
-    /// Seek: the place of the room in its region. Kill: the record's length.
-    pub c: usize,
-    /// Kill: the record's key.
+    /// The length of what is lent, named at the start.
+    pub len: usize,
+    /// The edit's region. Erases: the next one to erase, or `at` where none is left.
+    pub region: usize,
+    /// Lay, invalidate, zeroise: the record's place in its region. Erases: the region after the last to erase.
+    pub at: usize,
+    /// Invalidate, zeroise: the record's length.
+    pub size: usize,
+    /// Invalidate, zeroise: the record's key.
     pub found: u64,
-    /// Seek: 0 no room yet, 1 room that is not blank, 2 blank room.
-    pub tag: u32,
-    /// Kill: the record's flags.
-    pub flags: u8,
+    /// Seek: which region of the probe order is being read, counted from 0. Sweep: the region. Complete: the length. Freed: the bytes.
+    pub a: usize,
+    /// Seek: the region with room. Sweep: how many regions were erased before this one.
+    pub b: usize,
+    /// Seek: the place of the room in its region.
+    pub c: usize,
 }
 
 impl Operation {
-    /// The phase of an operation that has not begun.
-    pub const PHASE_FRESH: u32 = 1;
-    /// The phase of an operation that has ended.
-    pub const PHASE_ENDED: u32 = 8;
+    /// The layout of the operations that this library hands out and takes.
+    pub const LAYOUT: u32 = 8;
+    /// What is next where an operation has ended.
+    pub const NEXT_ENDED: u32 = 6;
 }
 
 /// What a start hands out.
@@ -106,7 +125,7 @@ extern "C" {
     fn stilefray_garbage_collect(image: *mut u8, image_len: usize, s: usize, n: usize) -> AnswerNumbers;
     fn stilefray_initialise(image: *mut u8, image_len: usize, s: usize, n: usize, key: u64) -> AnswerNumbers;
     fn stilefray_checksum(bytes: *const u8, len: usize) -> u32;
-    fn stilefray_start_get(s: usize, n: usize, key: u64, room: usize) -> StartNumbers;
+    fn stilefray_start_get(s: usize, n: usize, key: u64, capacity: usize) -> StartNumbers;
     fn stilefray_start_append(s: usize, n: usize, key: u64, length: usize) -> StartNumbers;
     fn stilefray_start_invalidate(s: usize, n: usize, key: u64) -> StartNumbers;
     fn stilefray_start_zeroise(s: usize, n: usize, key: u64) -> StartNumbers;
@@ -159,9 +178,9 @@ pub fn checksum(bytes: &[u8]) -> u32 {
 }
 
 /// `stilefray_start_get`.
-pub fn start_get(s: usize, n: usize, key: u64, room: usize) -> StartNumbers {
+pub fn start_get(s: usize, n: usize, key: u64, capacity: usize) -> StartNumbers {
     // SAFETY: numbers alone are passed, and any numbers are answered.
-    unsafe { stilefray_start_get(s, n, key, room) }
+    unsafe { stilefray_start_get(s, n, key, capacity) }
 }
 
 /// `stilefray_start_append`.

@@ -49,7 +49,7 @@ pub enum Served {
     NotReady,
     /// The service is done, and the operation goes on with another.
     More,
-    /// The operation has answered, and has ended. Only after `Err(BadCall)` does it still run, as it was before.
+    /// The operation has answered, and has ended; but `Err(BadCall)` leaves it as it was before, running or not.
     Answer(Answer),
 }
 

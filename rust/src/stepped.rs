@@ -90,19 +90,19 @@ pub enum Request {
         /// The region's number, below `n`.
         region: usize,
     },
-    /// Nothing more: the operation has ended with this answer. Only after `Err(BadCall)` does it still run, as it was before the step.
+    /// Nothing more: the operation has ended with this answer; but `Err(BadCall)` leaves it as it was before the step, running or not.
     Answer(Answer),
 }
 
 /// A running operation on a chip of `n` regions of `s` bytes. It is plain data: it holds no pointer and may be copied, or kept and
-/// taken up again later.
+/// taken up again later, with the region buffer of its last step: where it waits for a write, the bytes to write are there.
 #[derive(Clone, Copy, Debug, PartialEq, Eq)]
 pub struct Running(Operation);
 
 impl Running {
-    /// Starts a get into a buffer of `room` bytes. Refused: BadGeometry, BadKey; nothing runs then.
-    pub fn get_key(s: usize, n: usize, key: u64, room: usize) -> Result<Running, Refusal> {
-        Running::of(ffi::start_get(s, n, key, room))
+    /// Starts a get into a buffer of `capacity` bytes. Refused: BadGeometry, BadKey; nothing runs then.
+    pub fn get_key(s: usize, n: usize, key: u64, capacity: usize) -> Result<Running, Refusal> {
+        Running::of(ffi::start_get(s, n, key, capacity))
     }
 
     /// Starts an append of a value of `length` bytes. Refused: BadGeometry, BadKey, ObjectTooLarge; nothing runs then.
@@ -134,7 +134,8 @@ impl Running {
     ///
     /// BadCall, which alters neither the operation nor a buffer: `region` has not `s` bytes; append's value or get's buffer has not the
     /// length named at the start; [`Reply::Begin`] at any but the first step or another reply at the first; a step after the end; or
-    /// an operation that breaks the rule which every one handed out by a start or a step keeps. It comes before FlashFailed.
+    /// an operation of another layout, or that breaks the rule which every one handed out by a start or a step keeps. It comes before
+    /// FlashFailed.
     ///
     /// A step alters `region` only where it asks for a write: the bytes to write then lie in it at their own place, and the rest stays
     /// as last read. It alters `buffer` only where a get answers: by the value's first bytes, as far as they fit.
@@ -146,12 +147,12 @@ impl Running {
 
     /// Whether the operation is fresh, so that the next step is given [`Reply::Begin`].
     pub fn is_fresh(&self) -> bool {
-        self.0.phase == Operation::PHASE_FRESH
+        self.0.fresh == 1
     }
 
     /// Whether the operation has ended: its answer was given, and any further step is BadCall.
     pub fn has_ended(&self) -> bool {
-        self.0.phase == Operation::PHASE_ENDED
+        self.0.next == Operation::NEXT_ENDED
     }
 
     /// The operation's numbers, to look at or to keep.
@@ -160,7 +161,8 @@ impl Running {
     }
 
     /// An operation of any numbers, such as [`numbers`](Running::numbers) gave. Each step tests them first, so numbers that something
-    /// overwrote are answered by BadCall, or lead to requests within the chip that they name.
+    /// overwrote are answered by BadCall, or lead to requests within the chip that they name; and numbers of another
+    /// [layout](Operation::LAYOUT), kept over an update of the library, are answered by BadCall.
     pub fn from_numbers(numbers: Operation) -> Running {
         Running(numbers)
     }

@@ -23,26 +23,34 @@ fn an_answer_lies_as_in_c() {
 
 #[test]
 fn an_operation_lies_as_in_c() {
-    assert_eq!((size_of::<Operation>(), align_of::<Operation>()), (80, 8));
-    lies!(Operation, job, 0, 4);
-    lies!(Operation, phase, 4, 4);
-    lies!(Operation, s, 8, 8);
-    lies!(Operation, n, 16, 8);
-    lies!(Operation, key, 24, 8);
-    lies!(Operation, lent, 32, 8);
-    lies!(Operation, a, 40, 8);
-    lies!(Operation, b, 48, 8);
-    lies!(Operation, c, 56, 8);
-    lies!(Operation, found, 64, 8);
-    lies!(Operation, tag, 72, 4);
-    lies!(Operation, flags, 76, 1);
+    assert_eq!((size_of::<Operation>(), align_of::<Operation>()), (120, 8));
+    lies!(Operation, layout, 0, 4);
+    lies!(Operation, fresh, 4, 4);
+    lies!(Operation, lent, 8, 4);
+    lies!(Operation, edit, 12, 4);
+    lies!(Operation, next, 16, 4);
+    lies!(Operation, aim, 20, 4);
+    lies!(Operation, tag, 24, 4);
+    lies!(Operation, version, 28, 1);
+    lies!(Operation, flags, 29, 1);
+    lies!(Operation, s, 32, 8);
+    lies!(Operation, n, 40, 8);
+    lies!(Operation, key, 48, 8);
+    lies!(Operation, len, 56, 8);
+    lies!(Operation, region, 64, 8);
+    lies!(Operation, at, 72, 8);
+    lies!(Operation, size, 80, 8);
+    lies!(Operation, found, 88, 8);
+    lies!(Operation, a, 96, 8);
+    lies!(Operation, b, 104, 8);
+    lies!(Operation, c, 112, 8);
 }
 
 #[test]
 fn a_start_lies_as_in_c() {
-    assert_eq!((size_of::<StartNumbers>(), align_of::<StartNumbers>()), (88, 8));
+    assert_eq!((size_of::<StartNumbers>(), align_of::<StartNumbers>()), (128, 8));
     lies!(StartNumbers, refusal, 0, 4);
-    lies!(StartNumbers, op, 8, 80);
+    lies!(StartNumbers, op, 8, 120);
 }
 
 #[test]
@@ -58,7 +66,7 @@ fn a_request_lies_as_in_c() {
 
 #[test]
 fn a_stepped_lies_as_in_c() {
-    assert_eq!((size_of::<SteppedNumbers>(), align_of::<SteppedNumbers>()), (136, 8));
-    lies!(SteppedNumbers, op, 0, 80);
-    lies!(SteppedNumbers, request, 80, 56);
+    assert_eq!((size_of::<SteppedNumbers>(), align_of::<SteppedNumbers>()), (176, 8));
+    lies!(SteppedNumbers, op, 0, 120);
+    lies!(SteppedNumbers, request, 120, 56);
 }

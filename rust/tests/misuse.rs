@@ -2,7 +2,7 @@
 //! no mistake, alters nothing either.
 mod common;
 use common::{blank, Call, N, S};
-use stilefray::ffi;
+use stilefray::ffi::{self, Operation};
 use stilefray::image::{append_key, invalidate_key};
 use stilefray::stepped::{Reply, Request, Running};
 use stilefray::{Answer, Refusal, Success};
@@ -23,11 +23,12 @@ impl Host {
     fn mistake(&self, reply: Reply, region: usize, value: usize, buffer: usize) {
         let mut running = self.running;
         let parts = |bytes: &[u8], length: usize| bytes.iter().copied().chain(0..).take(length).collect::<Vec<u8>>();
-        let (mut lent, lent_value, mut room) = (parts(&self.region, region), parts(self.call.value(), value), parts(&self.buffer, buffer));
-        let (lent_before, room_before) = (lent.clone(), room.clone());
-        let request = running.step(reply, &mut lent, &lent_value, &mut room);
+        let (mut lent, lent_value) = (parts(&self.region, region), parts(self.call.value(), value));
+        let mut lent_buffer = parts(&self.buffer, buffer);
+        let before = (self.running, lent.clone(), lent_buffer.clone());
+        let request = running.step(reply, &mut lent, &lent_value, &mut lent_buffer);
         assert_eq!(request, BAD_CALL, "{:?} {reply:?} {region} {value} {buffer} {:?}", self.call, self.running);
-        assert_eq!((running, lent, room), (self.running, lent_before, room_before));
+        assert_eq!((running, lent, lent_buffer), before);
     }
 
     /// Every mistake at this point of the run. `fresh` and `ended` say which replies are mistakes.
@@ -52,13 +53,21 @@ impl Host {
                 }
             }
         }
+        let op = self.running.numbers();
         for number in [4, 5, 255, 256, 1 << 31, u32::MAX] {
-            let (region, room) = (self.region.clone(), self.buffer.clone());
-            let op = self.running.numbers();
-            let stepped = ffi::step(op, number, &mut self.region, self.call.value(), &mut self.buffer);
-            assert_eq!((stepped.op, stepped.request.kind, stepped.request.answer.refusal), (op, 4, 11));
-            assert_eq!((&self.region, &self.buffer), (&region, &room));
+            self.mistaken(op, number);
         }
+        for layout in [0, 1, 3, 4, 256, 1 << 31, u32::MAX] {
+            (0..5).for_each(|reply| self.mistaken(Operation { layout, ..op }, reply));
+        }
+    }
+
+    /// A step of an operation and a reply that are mistakes in themselves.
+    fn mistaken(&mut self, op: Operation, reply: u32) {
+        let (region, buffer) = (self.region.clone(), self.buffer.clone());
+        let stepped = ffi::step(op, reply, &mut self.region, self.call.value(), &mut self.buffer);
+        assert_eq!((stepped.op, stepped.request.kind, stepped.request.answer.refusal), (op, 4, 11));
+        assert_eq!((&self.region, &self.buffer), (&region, &buffer));
     }
 
     /// Not ready repeats the request and alters nothing; lending what is not looked at makes no difference.

@@ -123,10 +123,10 @@ fn number_9_leaves_the_first_bytes_and_looks_at_no_checksum() {
     image::append_key(&mut chip, S, N, 1, &[7, 8, 9]).unwrap();
     for wrong in [false, true] {
         chip[78] = if wrong { 0 } else { chip[78] };
-        for (room, first) in [(0, vec![]), (1, vec![7]), (2, vec![7, 8])] {
+        for (buffer_len, first) in [(0, vec![]), (1, vec![7]), (2, vec![7, 8])] {
             let expected = Left { answer: Err(Refusal::BufferTooSmall(3)), image: chip.clone(), buffer: first };
-            assert_eq!(Call::Get(1, room).at_once(&chip, S, N), expected);
-            assert_eq!(Call::Get(1, room).by_steps(&chip, S, N).0, expected);
+            assert_eq!(Call::Get(1, buffer_len).at_once(&chip, S, N), expected);
+            assert_eq!(Call::Get(1, buffer_len).by_steps(&chip, S, N).0, expected);
         }
     }
     assert_eq!(Refusal::BufferTooSmall(3).number(), 9);

@@ -3,12 +3,16 @@ use mathlib.Core.Path.{_≡_, refl}
 use mathlib.Core.List.{List, [], _∷_, map}
 use Rattle.crc32.specs.Crc.{shift, shifts, feed, run, checksum}
 use Rattle.chip.specs.Chip.{written, isBlank}
-use Rattle.chip.specs.Geometry.{sized, geometry}
+use Rattle.chip.specs.Geometry.{sized, geometry, numbers}
 use Rattle.probe.specs.Probe.{keep, around, outward, probe}
-use Rattle.region.specs.Record.{bigEndian, littleEndian, recordBytes, checkSumFits}
-use Rattle.region.specs.Walk.{bigEndianAt, stepOf, walkIn, walkFrom, firstOf}
-use Rattle.lookup.specs.Lookup.{firstRefusal, firstDecides, firstRoom, hitOf}
-use Rattle.store.specs.Store.{getOf, appendOf, removeOf, numbers, collectIn, collectOf}
+use Rattle.region.specs.Layout.{bigEndian, littleEndian, recordBytes, checkSumFits}
+use Rattle.region.specs.Walk.{bigEndianAt, metOf, walkIn, walkFrom, firstOf}
+use Rattle.lookup.specs.Refusals.{firstRefusal}
+use Rattle.lookup.specs.Turns.{lookFrom, hitOf}
+use Rattle.plans.specs.Writes.{applied}
+use Rattle.store.specs.Read.{getOf}
+use Rattle.store.specs.Write.{appendOf, removeOf}
+use Rattle.store.specs.Collect.{collectIn, collectOf}
 use Rattle.afternoons.specs.Table.{Case, blank, afterThree, intoTwo, after49, afterKey5, afterInvalidate, afterCollect, afterZeroise, version2, withLength, table}
 
 -- The two lists of each line are the same.
@@ -24,5 +28,5 @@ columns (c ∷ cs) h = λ i. h .0 i ∷ columns cs (h .1) i
 -- "The starred items stand in a single table proved by one statement about the definitions": what they compute is what the document says.
 -- Each line is closed, so it computes. It is one `refl` a line, for two columns compared as a whole take more steps than a check allows.
 pub afternoons : map (λ (c : Case). c .computed) table ≡ map (λ (c : Case). c .stated) table
-unfolding shift shifts feed run checksum written isBlank sized geometry keep around outward probe bigEndian littleEndian recordBytes checkSumFits bigEndianAt stepOf walkIn walkFrom firstOf firstRefusal firstDecides firstRoom hitOf getOf appendOf removeOf numbers collectIn collectOf blank afterThree intoTwo after49 afterKey5 afterInvalidate afterCollect afterZeroise version2 withLength table
+unfolding shift shifts feed run checksum written isBlank sized geometry keep around outward probe bigEndian littleEndian recordBytes checkSumFits bigEndianAt metOf walkIn walkFrom firstOf firstRefusal lookFrom hitOf applied getOf appendOf removeOf numbers collectIn collectOf blank afterThree intoTwo after49 afterKey5 afterInvalidate afterCollect afterZeroise version2 withLength table
 afternoons = columns table ((refl, (refl, (refl, (refl, (refl, (refl, (refl, (refl, (refl, (refl, (refl, (refl, (refl, (refl, (refl, (refl, (refl, (refl, (refl, tt))))))))))))))))))))

@@ -4,13 +4,15 @@ use mathlib.Core.List.{List, [], _∷_, _++_}
 use lib.ListN.{take, drop, set, replicate}
 use Rattle.chip.specs.Chip.{written, erased}
 use Rattle.probe.specs.Probe.{probes}
-use Rattle.region.specs.Record.{recordBytes}
+use Rattle.region.specs.declared.Removal.{Removal}
+use Rattle.region.specs.Layout.{recordBytes}
 use Rattle.lookup.specs.declared.Hit.{Hit}
-use Rattle.lookup.specs.Lookup.{hitOf}
-use Rattle.store.specs.declared.Answer.{Answer}
-use Rattle.store.specs.declared.Removal.{Removal}
-use Rattle.store.specs.Answer.{refusal, values}
-use Rattle.store.specs.Store.{Got, getOf, Done, appendOf, removeOf, collectOf}
+use Rattle.lookup.specs.Turns.{hitOf}
+use Rattle.plans.specs.declared.Answer.{Answer}
+use Rattle.plans.specs.Answers.{refusal, values}
+use Rattle.store.specs.Read.{Got, getOf}
+use Rattle.store.specs.Write.{Done, appendOf, removeOf}
+use Rattle.store.specs.Collect.{collectOf}
 
 -- A line of the table: the item's number, what the definitions compute, and what the document says. Where an answer is among them it
 -- comes first, by its number (0 where nothing is refused) and its values; the bytes follow.

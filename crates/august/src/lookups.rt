@@ -4,7 +4,7 @@ use crate::flash::Image;
 use crate::old_lookup;
 use crate::print;
 use lookup::Hit;
-use store::Answer;
+use plans::Answer;
 
 // More bytes than any value of the day has.
 const ROOM: usize = 20;
@@ -97,7 +97,7 @@ fn print_bytes(answer: Answer, buffer: &[u8]) {
 pub fn is_live(image: &Image, key: u64) -> bool {
     let hit = lookup::find_key(image, flash::S, flash::N, key);
     match hit {
-        Hit::Live(_, _) => true,
+        Hit::Live { region: _, rec: _ } => true,
         Hit::Refused(_) => false,
     }
 }

@@ -1,6 +1,6 @@
 // Numbers, answers and values in columns.
+use plans::Answer;
 use report::text;
-use store::Answer;
 
 pub fn number(n: usize) {
     io::print_decimal(1, n as u64);

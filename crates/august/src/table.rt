@@ -1,8 +1,8 @@
 // What is where: a row for each record of the image, and one for what is left of each region.
 use crate::flash;
 use crate::print;
+use region::Met;
 use region::Record;
-use region::Step;
 use region::Stop;
 ghost use mathlib.Core.Path.{_≡_};
 ghost use Prim.Native.Nat.{_≤_};
@@ -25,13 +25,13 @@ pub fn show(image: &[u8])
 fn rows(r: usize, region: &[u8]) {
     let mut at: usize = 0;
     loop {
-        let step = region::look(region, at);
-        match step {
-            Step::Found(rec) => {
+        let met = region::look(region, at);
+        match met {
+            Met::Found(rec) => {
                 record_row(r, rec);
                 at += rec.len;
             }
-            Step::Stop(stop) => {
+            Met::Stop(stop) => {
                 let e = region.len();
                 stop_row(r, stop, &region[at..e]);
                 return;

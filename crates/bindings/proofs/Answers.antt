@@ -1,6 +1,6 @@
 -- On a well-formed image the answers are what the bindings say.
 -- Assumes nothing.
-use Prim.Native.Nat.{ℕ, _+_, _-_, _≤_, _<_}
+use Prim.Native.Nat.{ℕ, _+_, _≤_, _<_}
 use native.Mathlib.Omega.{arith}
 use mathlib.Core.Path.{_≡_, refl, sym, _∙_, ap, subst}
 use mathlib.Core.Bool.{true}
@@ -10,17 +10,21 @@ use borrow.Author.Tests.{lt-ltb, le-ltb}
 use Rattle.chip.specs.Geometry.{Fits, regionOf}
 use Rattle.chip.proofs.Image.{fits-geometry}
 use Rattle.probe.specs.Probe.{allowedKey, probes}
-use Rattle.region.specs.Record.{recordLength, checkSumFits}
-use Rattle.region.specs.Walk.{bytesIn, valueIn}
-use Rattle.lookup.specs.declared.Refusal.{Refusal}
-use Rattle.lookup.specs.declared.Check.{Check}
+use Rattle.region.specs.declared.Record.{Record}
+use Rattle.region.specs.Layout.{recordLength, checkSumFits}
+use Rattle.region.specs.Walk.{bytesIn, valueLength, valueIn}
+use Rattle.lookup.specs.declared.refusals.Refusal.{Refusal}
+use Rattle.lookup.specs.declared.refusals.Check.{Check}
 use Rattle.lookup.specs.declared.Need.{Need}
 use Rattle.lookup.specs.declared.Looked.{Looked}
 use Rattle.lookup.specs.declared.Hit.{Hit}
-use Rattle.lookup.specs.Lookup.{firstRefusal, lookupIn, hitBy, hitOf}
+use Rattle.lookup.specs.Refusals.{firstRefusal}
+use Rattle.lookup.specs.Turns.{lookupIn, hitBy, hitOf}
 use Rattle.lookup.proofs.Ends.{held}
-use Rattle.store.specs.declared.Answer.the-variants.{Complete, Refused}
-use Rattle.store.specs.Store.{gotBy, getOf, refused, appendOf}
+use Rattle.plans.specs.declared.Answer.the-variants.{Complete, Refused}
+use Rattle.plans.specs.Writes.{applied}
+use Rattle.store.specs.Read.{gotBy, getOf}
+use Rattle.store.specs.Write.{refused, appendOf}
 use Rattle.bindings.specs.WellFormed.{Live, WellFormed, Bound}
 use Rattle.bindings.proofs.Lookups.{never-bad, found-live, is-found}
 
@@ -29,8 +33,9 @@ pub fine-first : (image : List ℕ) (s n key len : ℕ) → Fits image s n → a
 unfolding firstRefusal
 fine-first image s n key len f k l = rw (fits-geometry f, k, le-ltb 4079 len l)
 
-value-long : (bytes : List ℕ) → 15 ≤ length bytes → length (take (length bytes - 15) (drop 11 bytes)) ≡ length bytes - 15
-value-long bytes h = simp (length-take, length-drop) (omega arith)
+-- the value of a record that lies in the region is as long as the record says
+value-long : (region : List ℕ) (x : Record) → 15 ≤ x .len → x .at + x .len ≤ length region → length (valueIn region x) ≡ valueLength x
+value-long region x l f = simp (length-take, length-drop) (omega arith)
 
 module _ {s n : ℕ} {image : List ℕ} (w : WellFormed s n image) (key : ℕ) where
   -- a bound key is hit
@@ -40,30 +45,26 @@ module _ {s n : ℕ} {image : List ℕ} (w : WellFormed s n image) (key : ℕ) w
       let k : allowedKey key ≡ true = subst (λ (t : ℕ). allowedKey t ≡ true) (b .key-is) (w .keys (b .region) (b .rec) (b .held)) in
       rw (fine-first image s n key 0 (w .fits) k (omega arith), is-found w key Need.Nothing (b .region) (b .rec) (b .held) (b .key-is))
 
-  -- the bytes of its record: the value's length, the value, the sum
-  bytes-of : {value : List ℕ} (b : Bound s n image key value)
-      → let bytes = bytesIn (regionOf s image (b .region)) (b .rec) in
-      (length bytes - 15 ≡ length value) × (take (length bytes - 15) (drop 11 bytes) ≡ value) × (checkSumFits bytes ≡ true)
-  bytes-of {value} b =
+  -- its record says the value's length, and its sum is right
+  long-of : {value : List ℕ} (b : Bound s n image key value) → (valueLength (b .rec) ≡ length value) × (checkSumFits (bytesIn (regionOf s image (b .region)) (b .rec)) ≡ true)
+  long-of b =
       let h = held image s n key (b .region) (b .rec) (hit-bound b) in
-      let bytes = bytesIn (regionOf s image (b .region)) (b .rec) in
-      let same : take (length bytes - 15) (drop 11 bytes) ≡ value = ap (λ (m : ℕ). take (m - 15) (drop 11 bytes)) (h .long) ∙ b .value-is in
-      let long = value-long bytes (omega (arith, h .long, h .found .least)) in
-      (sym long ∙ ap length same, same, w .sums (b .region) (b .rec) (b .held))
+      let long = value-long (regionOf s image (b .region)) (b .rec) (h .found .least) (omega (arith, h .found .fits, h .size)) in
+      (sym long ∙ ap length (b .value-is), w .sums (b .region) (b .rec) (b .held))
 
   pub get-bound : {value : List ℕ} (b : Bound s n image key value) (buffer : List ℕ) → length value ≤ length buffer
       → getOf image s n key buffer ≡ record { answer = Complete (length value); buffer = value ++ drop (length value) buffer }
   unfolding getOf
   get-bound {value} b buffer h =
-      let (n, v, c) = bytes-of b in
-      rw (hit-bound b, v, n, le-ltb (length buffer) (length value) h, c)
+      let (n, c) = long-of b in
+      rw (hit-bound b, b .value-is, n, le-ltb (length buffer) (length value) h, c)
 
   pub get-short : {value : List ℕ} (b : Bound s n image key value) (buffer : List ℕ) → length buffer < length value
       → getOf image s n key buffer ≡ record { answer = Refused (Refusal.BufferTooSmall (length value)); buffer = take (length buffer) value }
   unfolding getOf
   get-short {value} b buffer h =
-      let (n, v, c) = bytes-of b in
-      rw (hit-bound b, v, n, lt-ltb (length buffer) (length value) h)
+      let (n, c) = long-of b in
+      rw (hit-bound b, b .value-is, n, lt-ltb (length buffer) (length value) h)
 
   -- an unbound key is missed, if it is a key at all
   pub get-unbound : (buffer : List ℕ) → allowedKey key ≡ true → ((value : List ℕ) → Bound s n image key value → ⊥)
@@ -80,7 +81,7 @@ module _ {s n : ℕ} {image : List ℕ} (w : WellFormed s n image) (key : ℕ) w
 
   -- append of a bound key is refused, whatever the value
   pub append-bound : {held-value : List ℕ} (b : Bound s n image key held-value) (value : List ℕ) → length value ≤ 4079 → appendOf image s n key value ≡ refused Refusal.KeyAlreadyExists image
-  unfolding appendOf
+  unfolding appendOf applied
   append-bound b value l =
       let k : allowedKey key ≡ true = subst (λ (t : ℕ). allowedKey t ≡ true) (b .key-is) (w .keys (b .region) (b .rec) (b .held)) in
-      rw (fine-first image s n key (length value) (w .fits) k l, is-found w key (Need.Room (recordLength value)) (b .region) (b .rec) (b .held) (b .key-is))
+      rw (fine-first image s n key (length value) (w .fits) k l, is-found w key (Need.Room (recordLength (length value))) (b .region) (b .rec) (b .held) (b .key-is))

@@ -9,19 +9,21 @@ use mathlib.Core.List.{List, [], _∷_}
 use lib.Bits.{and-self}
 use lib.ListN.{getD}
 use Rattle.chip.specs.Chip.{erased}
-use Rattle.chip.specs.Geometry.{Fits, geometry, regionOf, eraseRegion}
+use Rattle.chip.specs.Geometry.{Fits, geometry, regionOf, eraseRegion, numbers}
 use Rattle.chip.proofs.Lists.{Every}
 use Rattle.chip.proofs.Image.{geometry-fits, fits-erased, region-erased-same, region-erased-other}
 use Rattle.chip.proofs.Theorems.{write-clears}
-use Rattle.lookup.specs.declared.Refusal.{Refusal}
-use Rattle.lookup.specs.declared.Hit.{Hit}
-use Rattle.lookup.specs.Lookup.{hitOf}
-use Rattle.store.specs.declared.Removal.{Removal}
-use Rattle.store.specs.declared.Verdict.{Verdict}
-use Rattle.store.specs.Store.{Done, appendOf, removeBy, removeOf, refused, verdict, numbers, collectIn, collectOf, getOf, startsAnew, initialiseOf}
+use Rattle.region.specs.declared.Removal.{Removal}
+use Rattle.lookup.specs.declared.refusals.Refusal.{Refusal}
+use Rattle.plans.specs.declared.Verdict.{Verdict}
+use Rattle.plans.specs.Sweeps.{verdict}
+use Rattle.plans.specs.Answers.{startsAnew}
+use Rattle.store.specs.Write.{Done, appendOf, removeOf, refused, initialiseOf}
+use Rattle.store.specs.Collect.{collectIn, collectOf}
+use Rattle.store.specs.Read.{getOf}
 use Rattle.bindings.specs.Calls.{OnlyCleared}
 use Rattle.bindings.proofs.Images.{same-or-not}
-use Rattle.bindings.proofs.Outcomes.{Appending, appending}
+use Rattle.bindings.proofs.Outcomes.{Appending, appending, Removing, removing}
 use Rattle.bindings.proofs.Collects.{numbers-below}
 
 pub same-cleared : (image : List ℕ) → OnlyCleared image image
@@ -38,26 +40,25 @@ append-clears image s n key value d (Appending.wrote seen r o a e h y) = write-c
 pub append-only-clears : (image : List ℕ) (s n key : ℕ) (value : List ℕ) → OnlyCleared (appendOf image s n key value .image) image
 append-only-clears image s n key value = append-clears image s n key value (appendOf image s n key value) (appending image s n key value)
 
+remove-clears : (how : Removal) (image : List ℕ) (s n key : ℕ) (d : Done) → Removing how image s n key d → OnlyCleared (d .image) image
+remove-clears how image s n key d (Removing.not-hit z t) = same-cleared image
+remove-clears how image s n key d (Removing.removes r x e) = write-clears image _ _
+
 pub remove-only-clears : (how : Removal) (image : List ℕ) (s n key : ℕ) → OnlyCleared (removeOf how image s n key .image) image
-unfolding removeOf
-remove-only-clears how image s n key = go (hitOf image s n key)
-  where
-    go : (t : Hit) → OnlyCleared (removeBy how s image t .image) image
-    go (Hit.Live r x) = write-clears image _ _
-    go (Hit.Refused z) = same-cleared image
+remove-only-clears how image s n key = remove-clears how image s n key (removeOf how image s n key) (removing how image s n key)
 
 -- collect: each region is as it was, or erased
 pub swept : (s n : ℕ) (rs : List ℕ) (image : List ℕ) (freed : ℕ) → Fits image s n → Every (λ (q : ℕ). q < n) rs
     → (r : ℕ) → (regionOf s (collectIn s image freed rs .image) r ≡ regionOf s image r) ⊎ (regionOf s (collectIn s image freed rs .image) r ≡ erased s)
 unfolding collectIn
 swept s n [] image freed f Every.none r = inl refl
-swept s n (q ∷ rs) image freed f (Every.also h hs) r = go (λ image freed f. swept s n rs image freed f hs r) (verdict (regionOf s image q)) refl
+swept s n (q ∷ rs) image freed f (Every.also h hs) r = go (λ image freed f. swept s n rs image freed f hs r) (verdict q (regionOf s image q)) refl
   where
     go : ((image : List ℕ) (freed : ℕ) → Fits image s n → (regionOf s (collectIn s image freed rs .image) r ≡ regionOf s image r) ⊎ (regionOf s (collectIn s image freed rs .image) r ≡ erased s))
-        → (v : Verdict) → verdict (regionOf s image q) ≡ v
+        → (v : Verdict) → verdict q (regionOf s image q) ≡ v
         → (regionOf s (collectIn s image freed (q ∷ rs) .image) r ≡ regionOf s image r) ⊎ (regionOf s (collectIn s image freed (q ∷ rs) .image) r ≡ erased s)
     go ih Verdict.Stands e = rw (e, collectIn) (ih image freed f)
-    go ih (Verdict.Bad g o) e = rw (e, collectIn) (inl refl)
+    go ih (Verdict.Bad g p) e = rw (e, collectIn) (inl refl)
     go ih Verdict.Erase e =
         rw (e, collectIn)
         (⊎-elim

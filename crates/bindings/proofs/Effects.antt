@@ -4,23 +4,24 @@ use Prim.Native.Nat.{ℕ, _+_, _^_, _≤_, _<_}
 use native.Mathlib.Omega.{arith}
 use mathlib.Core.Path.{_≡_, sym, _∙_, ap, subst}
 use mathlib.Core.Bool.{true, false, false≢true, true≢false}
-use mathlib.Core.Logic.{_⊎_, inl, inr, ⊎-elim}
+use mathlib.Core.Logic.{inl, inr, ⊎-elim}
 use mathlib.Core.List.{List, [], _∷_, _++_, append-assoc, List·Memᴰ, List·Memᴰ·not-nil, List·Memᴰ·eq-of-singleton, Memᴰ·append-left, Memᴰ·append-right, List·Memᴰ·append-cases, List·Memᴰ·head}
 use lib.ListN.{length}
-use Rattle.chip.specs.Chip.{Bytes, erased}
+use Rattle.chip.specs.Chip.{Bytes, written, erased}
 use Rattle.region.specs.declared.Record.{Record}
 use Rattle.region.specs.declared.Want.{Want}
-use Rattle.region.specs.Record.{recordLength, appended}
+use Rattle.region.specs.declared.Removal.{Removal}
+use Rattle.region.specs.Layout.{recordLength, recordBytes}
 use Rattle.region.specs.Walk.{live, View, records, recordOf, dead, isWanted}
 use Rattle.region.proofs.Search.{None}
 use Rattle.region.proofs.Theorems.{records-within, records-apart, blank-region, dead-not-live}
-use Rattle.store.specs.declared.Removal.{Removal}
-use Rattle.bindings.proofs.Members.{every-member, around, beside, middle-cases}
+use Rattle.pinned.proofs.Swept.{every-member}
+use Rattle.bindings.proofs.Members.{around, beside, middle-cases}
 use Rattle.bindings.proofs.Sound.{Sound, append-view, removedFrom, remove-view}
 use Rattle.bindings.proofs.Images.{Effect}
 
-module _ (region : List ℕ) (s : Sound region) (key : ℕ) (value : List ℕ) (fits : s .end + recordLength value ≤ length region) (k : key < 2 ^ 64) (l : length value ≤ 4079) (v : Bytes value) where
-  pub append-effect : Effect (appended region (s .end) key value) region (λ x. x ≡ recordOf (s .end) key value) (λ _. ⊥)
+module _ (region : List ℕ) (s : Sound region) (key : ℕ) (value : List ℕ) (fits : s .end + recordLength (length value) ≤ length region) (k : key < 2 ^ 64) (l : length value ≤ 4079) (v : Bytes value) where
+  pub append-effect : Effect (written region (s .end) (recordBytes key value)) region (λ x. x ≡ recordOf (s .end) key value) (λ _. ⊥)
   append-effect =
       let (view, kept) = append-view region s key value fits k l v in
       let recs = ap (λ (w : View). w .recs) view in
@@ -52,10 +53,10 @@ not-again region a x b e y m q = ⊎-elim before after (List·Memᴰ·append-cas
         let same : y .at ≡ x .at = ap (λ (z : Record). z .at) q in
         omega arith
 
-module _ (how : Removal) (region : List ℕ) (s : Sound region) (a : List Record) (x : Record) (b : List Record) (e : records region ≡ a ++ x ∷ b) where
+module _ (how : Removal) (region : List ℕ) (v : Bytes region) (s : Sound region) (a : List Record) (x : Record) (b : List Record) (e : records region ≡ a ++ x ∷ b) where
   pub remove-effect : Effect (removedFrom how region x) region (λ _. ⊥) (λ y. y ≡ x)
   remove-effect =
-      let (view, kept) = remove-view how region s a x b e in
+      let (view, kept) = remove-view how region v s a x b e in
       let recs = ap (λ (w : View). w .recs) view in
       record {
         from = λ y m l. ⊎-elim

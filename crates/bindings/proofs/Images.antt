@@ -1,24 +1,30 @@
 -- An image of which one region changed: what that does to its live records, and that it stays well-formed.
 -- Assumes nothing.
-use Prim.Native.Nat.{ℕ, _+_, _*_, _≤_, _<_}
+use Prim.Native.Nat.{ℕ, zero, suc, _+_, _*_, _≤_, _<_}
+use native.Mathlib.Omega.{arith}
 use mathlib.Core.Path.{_≡_, refl, sym, _∙_, ap, subst}
 use mathlib.Core.Bool.{Bool, true, false}
 use mathlib.Core.Logic.{_⊎_, inl, inr, ⊎-elim}
 use mathlib.Core.List.{List, [], _∷_, List·Memᴰ, List·Memᴰ·not-nil, List·Memᴰ·head, List·Memᴰ·tail}
 use lib.Dec.{eqb}
-use lib.ListN.{length, drop}
+use lib.Bits.{and-le-r}
+use lib.ListN.{length, getD, drop, set}
+use lib.Seq.{sets}
 use borrow.Author.Tests.{eqb-true, eqb-false}
-use Rattle.chip.specs.Chip.{written, erased, isBlank}
+use Rattle.chip.specs.Chip.{Bytes, written, erased, isBlank}
 use Rattle.chip.specs.Geometry.{Shape, Fits, regionOf, eraseRegion}
 use Rattle.chip.proofs.Lists.{Every}
+use Rattle.chip.proofs.Laws.{bytes-cons}
+use Rattle.chip.proofs.Theorems.{write-clears}
 use Rattle.chip.proofs.Image.{region-written-same, region-written-other, region-erased-same, region-erased-other, fits-written, fits-erased, erased-regions, fits-blank}
 use Rattle.probe.specs.Probe.{allowedKey}
 use Rattle.region.specs.declared.Record.{Record}
 use Rattle.region.specs.declared.Stop.{Stop}
 use Rattle.region.specs.Walk.{live, View, records, bytesIn}
+use Rattle.region.proofs.Numbers.{no-bytes}
 use Rattle.region.proofs.Theorems.{blank-region}
+use Rattle.pinned.proofs.Swept.{every-member}
 use Rattle.bindings.specs.WellFormed.{Stored, Live, WellFormed}
-use Rattle.bindings.proofs.Members.{every-member}
 use Rattle.bindings.proofs.Sound.{Sound, sound-blank}
 
 pub same-or-not : (q r : ℕ) → (q ≡ r) ⊎ (q ≡ r → ⊥)
@@ -30,7 +36,7 @@ same-or-not q r = go (eqb q r) refl
 
 -- Region by region.
 
-every-of : {A : Type 0} {P : A → Type 0} (xs : List A) → ((x : A) → List·Memᴰ x xs → P x) → Every P xs
+pub every-of : {A : Type 0} {P : A → Type 0} (xs : List A) → ((x : A) → List·Memᴰ x xs → P x) → Every P xs
 every-of [] h = Every.none
 every-of (x ∷ xs) h = Every.also (h x (List·Memᴰ·head refl)) (every-of xs (λ y m. h y (List·Memᴰ·tail m)))
 
@@ -56,9 +62,10 @@ pub record Keyed (s n : ℕ) (image : List ℕ) : Type 0 where
 end-same : {t : Stop} {o p : ℕ} → t ≡ Stop.End o → t ≡ Stop.End p → o ≡ p
 end-same a b = cc
 
-pub from-regions : {s n : ℕ} {image : List ℕ} → Fits image s n → ((r : ℕ) → r < n → Sound (regionOf s image r)) → Keyed s n image → WellFormed s n image
-from-regions {s} {n} {image} f sound k = record {
+pub from-regions : {s n : ℕ} {image : List ℕ} → Fits image s n → Bytes image → ((r : ℕ) → r < n → Sound (regionOf s image r)) → Keyed s n image → WellFormed s n image
+from-regions {s} {n} {image} f v sound k = record {
   fits = f;
+  bytes = v;
   no-bad = λ r h. (sound r h .end, sound r h .ends);
   flags = λ r x t. every-member (sound r (t .number) .good) (t .member) .flags;
   lengths = λ r x t. every-member (sound r (t .number) .good) (t .member) .length-most;
@@ -68,26 +75,47 @@ from-regions {s} {n} {image} f sound k = record {
   once = k .once;
 }
 
+-- Bytes: a write ANDs, and an erase gives 255.
+
+set-bytes : (image : List ℕ) (at b : ℕ) → Bytes image → b < 256 → Bytes (set image at b)
+set-bytes [] at b v h = v
+set-bytes (x ∷ image) zero b v h = bytes-cons b image h (λ k. v (suc k))
+set-bytes (x ∷ image) (suc at) b v h = bytes-cons x (set image at b) (v 0) (set-bytes image at b (λ k. v (suc k)) h)
+
+written-bytes : (image : List ℕ) (at : ℕ) (new : List ℕ) → Bytes image → Bytes (written image at new)
+written-bytes image at new v k = omega (arith, write-clears image at new k, and-le-r (getD (written image at new) k 0) (getD image k 0), v k)
+
+sets-bytes : (image : List ℕ) (at : ℕ) (new : List ℕ) → Bytes image → Bytes new → Bytes (sets image at new)
+sets-bytes image at [] v h = v
+sets-bytes image at (b ∷ new) v h = sets-bytes (set image at b) (suc at) new (set-bytes image at b v (h 0)) (λ k. h (suc k))
+
+erased-bytes : (size : ℕ) → Bytes (erased size)
+erased-bytes zero = no-bytes
+erased-bytes (suc size) = bytes-cons 255 (erased size) (omega arith) (erased-bytes size)
+
 -- One region changed.
 
 pub record Changed (s n : ℕ) (image image′ : List ℕ) (r : ℕ) (region′ : List ℕ) : Type 0 where
   pub fits : Fits image′ s n
+  pub bytes : Bytes image′
   pub number : r < n
   pub this : regionOf s image′ r ≡ region′
   pub others : (q : ℕ) → (q ≡ r → ⊥) → regionOf s image′ q ≡ regionOf s image q
 
-pub write-changes : {s n : ℕ} {image : List ℕ} (r o : ℕ) (b : List ℕ) → Fits image s n → r < n → o + length b ≤ s
+pub write-changes : {s n : ℕ} {image : List ℕ} (r o : ℕ) (b : List ℕ) → Fits image s n → Bytes image → r < n → o + length b ≤ s
     → Changed s n image (written image (r * s + o) b) r (written (regionOf s image r) o b)
-write-changes {s} {n} {image} r o b f h l = record {
+write-changes {s} {n} {image} r o b f v h l = record {
   fits = fits-written f (r * s + o) b;
+  bytes = written-bytes image (r * s + o) b v;
   number = h;
   this = region-written-same s r image o b l;
   others = region-written-other s r image o b l;
 }
 
-pub erase-changes : {s n : ℕ} {image : List ℕ} (r : ℕ) → Fits image s n → r < n → Changed s n image (eraseRegion s r image) r (erased s)
-erase-changes {s} {n} {image} r f h = record {
+pub erase-changes : {s n : ℕ} {image : List ℕ} (r : ℕ) → Fits image s n → Bytes image → r < n → Changed s n image (eraseRegion s r image) r (erased s)
+erase-changes {s} {n} {image} r f v h = record {
   fits = fits-erased f r;
+  bytes = sets-bytes image (r * s) (erased s) v (erased-bytes s);
   number = h;
   this = region-erased-same f h;
   others = region-erased-other s r image;
@@ -144,7 +172,7 @@ module _ {s n : ℕ} {image image′ : List ℕ} {r : ℕ} {region′ : List ℕ
   -- the image stays well-formed where the region is sound, and a new record's key is allowed and was not there
   pub well-formed-after : WellFormed s n image → Sound region′ → ((x : Record) → New x → allowedKey (x .key) ≡ true)
       → ((x y : Record) → New x → New y → x ≡ y) → ((x y : Record) (q : ℕ) → New x → Live s n image q y → x .key ≡ y .key → ⊥) → WellFormed s n image′
-  well-formed-after w sound allowed single fresh = from-regions (c .fits) regions (record { keys = keys; once = once })
+  well-formed-after w sound allowed single fresh = from-regions (c .fits) (c .bytes) regions (record { keys = keys; once = once })
     where
       regions : (q : ℕ) → q < n → Sound (regionOf s image′ q)
       regions q h = ⊎-elim (λ p. subst Sound (sym (ap (regionOf s image′) p ∙ c .this)) sound) (λ d. subst Sound (sym (c .others q d)) (sound-region w q h)) (same-or-not q r)
@@ -166,5 +194,5 @@ blank-not-stored s n r x t = List·Memᴰ·not-nil (subst (λ (l : List Record).
 
 pub blank-well-formed : {s n : ℕ} → Shape s n → WellFormed s n (erased (n * s))
 blank-well-formed {s} {n} h =
-    from-regions (fits-blank h) (λ r l. subst Sound (sym (erased-regions s l)) (sound-blank s))
+    from-regions (fits-blank h) (erased-bytes (n * s)) (λ r l. subst Sound (sym (erased-regions s l)) (sound-blank s))
     (record { keys = λ r x l. absurd (blank-not-stored s n r x (l .stored)); once = λ r q x y l m k. absurd (blank-not-stored s n r x (l .stored)) })

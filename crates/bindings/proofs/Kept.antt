@@ -15,7 +15,8 @@ use Rattle.probe.specs.Probe.{probes}
 use Rattle.region.specs.declared.Record.{Record}
 use Rattle.region.specs.declared.Stop.{Stop}
 use Rattle.region.specs.declared.Want.{Want}
-use Rattle.region.specs.Record.{recordLength, recordBytes, appended}
+use Rattle.region.specs.declared.Removal.{Removal}
+use Rattle.region.specs.Layout.{recordLength, recordBytes, killPlace, killBytes}
 use Rattle.region.specs.Walk.{records, bytesIn, valueIn, recordOf, isWanted}
 use Rattle.region.proofs.Bytes.{length-record}
 use Rattle.region.proofs.Theorems.{append-writes, reads-back, records-within}
@@ -23,18 +24,16 @@ use Rattle.region.proofs.Search.{None}
 use Rattle.lookup.specs.declared.Need.{Need}
 use Rattle.lookup.specs.declared.Seen.{Seen}
 use Rattle.lookup.specs.declared.Looked.{Looked}
-use Rattle.lookup.specs.Lookup.{lookupIn}
+use Rattle.lookup.specs.Turns.{lookupIn}
 use Rattle.lookup.proofs.Scan.{Roomy}
-use Rattle.store.specs.declared.Removal.{Removal}
-use Rattle.store.specs.Store.{removalPlace, removalBytes, removed}
-use Rattle.store.proofs.Ends.{removal-fits}
+use Rattle.pinned.proofs.Written.{region-bytes, kill-fits}
 use Rattle.bindings.specs.WellFormed.{Live, WellFormed, Bound}
 use Rattle.bindings.proofs.Members.{Around, around}
 use Rattle.bindings.proofs.Sound.{Sound, sound-append, removedFrom, sound-remove, sound-blank}
 use Rattle.bindings.proofs.Images.{sound-region, Changed, write-changes, erase-changes, Effect, live-before, live-after, live-new, well-formed-after}
 use Rattle.bindings.proofs.Effects.{append-effect, remove-effect, erase-effect}
 use Rattle.bindings.proofs.Lookups.{not-there}
-use Rattle.bindings.proofs.Outcomes.{Allowed}
+use Rattle.bindings.proofs.Outcomes.{Allowed, removed}
 
 -- A binding is carried from one image to another where its record is live there too, with the same bytes.
 carried : {s n : ℕ} {image′ image : List ℕ} {key : ℕ} {value : List ℕ} (b : Bound s n image key value) → Live s n image′ (b .region) (b .rec)
@@ -43,22 +42,22 @@ carried b l e = record { region = b .region; rec = b .rec; held = l; key-is = b 
 
 -- Append writes at the end of a region whose tail is blank.
 module _ {s n : ℕ} {image : List ℕ} (w : WellFormed s n image) (key : ℕ) (value : List ℕ) (k : key < 2 ^ 64) (v : Bytes value)
-    (a : Allowed image s n key (length value)) (seen : Seen) (e : lookupIn key (Need.Room (recordLength value)) s image (probes key n) ≡ Looked.Through seen)
-    (r o : ℕ) (h : r < n) (y : Roomy image s (recordLength value) r o true) where
+    (a : Allowed image s n key (length value)) (seen : Seen) (e : lookupIn key (Need.Room (recordLength (length value))) s image (probes key n) ≡ Looked.Through seen)
+    (r o : ℕ) (h : r < n) (y : Roomy image s (recordLength (length value)) r o true) where
   ground : Sound (regionOf s image r)
   ground = sound-region w r h
 
   at-end : ground .end ≡ o
   at-end = let p : Stop.End (ground .end) ≡ Stop.End o = sym (ground .ends) ∙ y .ends in cc
 
-  fits : ground .end + recordLength value ≤ length (regionOf s image r)
-  fits = omega (arith, at-end, y .room)
+  fits : ground .end + recordLength (length value) ≤ length (regionOf s image r)
+  fits = omega (arith, at-end, y .enough)
 
-  changed : Changed s n image (written image (r * s + o) (recordBytes key value)) r (appended (regionOf s image r) (ground .end) key value)
-  changed = subst (λ (p : ℕ). Changed s n image (written image (r * s + o) (recordBytes key value)) r (appended (regionOf s image r) p key value)) (sym at-end)
-      (write-changes r o (recordBytes key value) (w .fits) h (omega (arith, y .room, length-record key value, region-length (w .fits) h)))
+  changed : Changed s n image (written image (r * s + o) (recordBytes key value)) r (written (regionOf s image r) (ground .end) (recordBytes key value))
+  changed = subst (λ (p : ℕ). Changed s n image (written image (r * s + o) (recordBytes key value)) r (written (regionOf s image r) p (recordBytes key value))) (sym at-end)
+      (write-changes r o (recordBytes key value) (w .fits) (w .bytes) h (omega (arith, y .enough, length-record key value, region-length (w .fits) h)))
 
-  effect : Effect (appended (regionOf s image r) (ground .end) key value) (regionOf s image r) (λ x. x ≡ recordOf (ground .end) key value) (λ _. ⊥)
+  effect : Effect (written (regionOf s image r) (ground .end) (recordBytes key value)) (regionOf s image r) (λ x. x ≡ recordOf (ground .end) key value) (λ _. ⊥)
   effect = append-effect (regionOf s image r) ground key value fits k (a .size) v
 
   pub append-keeps : WellFormed s n (written image (r * s + o) (recordBytes key value))
@@ -66,17 +65,17 @@ module _ {s n : ℕ} {image : List ℕ} (w : WellFormed s n image) (key : ℕ) (
       well-formed-after changed effect w (sound-append (regionOf s image r) ground key value fits k (a .size) v)
       (λ x q. rw q (a .key-is))
       (λ x z q t. q ∙ sym t)
-      (λ x z q d l t. not-there w key (Need.Room (recordLength value)) seen e q z l (sym t ∙ ap (λ (b : Record). b .key) d))
+      (λ x z q d l t. not-there w key (Need.Room (recordLength (length value))) seen e q z l (sym t ∙ ap (λ (b : Record). b .key) d))
 
-  place-blank : isBlank (take (recordLength value) (drop (ground .end) (regionOf s image r))) ≡ true
+  place-blank : isBlank (take (recordLength (length value)) (drop (ground .end) (regionOf s image r))) ≡ true
   place-blank = rw at-end (sym (y .blankness))
 
-  new-value : valueIn (appended (regionOf s image r) (ground .end) key value) (recordOf (ground .end) key value) ≡ value
+  new-value : valueIn (written (regionOf s image r) (ground .end) (recordBytes key value)) (recordOf (ground .end) key value) ≡ value
   new-value =
       let bytes = append-writes (regionOf s image r) (ground .end) key value place-blank fits (a .size) v in
-      let whole : take (recordLength value) (recordBytes key value) ≡ recordBytes key value = take-all (recordLength value) (recordBytes key value) (omega (arith, length-record key value)) in
+      let whole : take (recordLength (length value)) (recordBytes key value) ≡ recordBytes key value = take-all (recordLength (length value)) (recordBytes key value) (omega (arith, length-record key value)) in
       let (_, _, says, _) = reads-back key value k (a .size) in
-      ap (λ (b : List ℕ). take (recordLength value - 15) (drop 11 b)) (bytes ∙ sym whole) ∙ says
+      ap (λ (b : List ℕ). take (recordLength (length value) - 15) (drop 11 b)) (bytes ∙ sym whole) ∙ says
 
   pub new-bound : Bound s n (written image (r * s + o) (recordBytes key value)) key value
   new-bound = record {
@@ -118,21 +117,23 @@ module _ {s n : ℕ} {image : List ℕ} (w : WellFormed s n image) (how : Remova
   split : Around (records (regionOf s image r)) x
   split = around (l .stored .member)
 
+  plain : Bytes (regionOf s image r)
+  plain = region-bytes s image r (w .bytes)
+
   firm : Sound (regionOf s image r)
   firm = sound-region w r (l .stored .number)
 
   replaced : Changed s n image (removed how s image r x) r (removedFrom how (regionOf s image r) x)
   replaced =
       let (least, inside) = records-within (regionOf s image r) (split .before) x (split .after) (split .split) in
-      let f = removal-fits how (regionOf s image r) x least inside in
-      write-changes r (removalPlace how x) (removalBytes how (regionOf s image r) x) (w .fits) (l .stored .number) (omega (arith, f, inside, region-length (w .fits) (l .stored .number)))
+      write-changes r (killPlace how x) (killBytes how x) (w .fits) (w .bytes) (l .stored .number) (omega (arith, kill-fits how x least, inside, region-length (w .fits) (l .stored .number)))
 
   killed : Effect (removedFrom how (regionOf s image r) x) (regionOf s image r) (λ _. ⊥) (λ y. y ≡ x)
-  killed = remove-effect how (regionOf s image r) firm (split .before) x (split .after) (split .split)
+  killed = remove-effect how (regionOf s image r) plain firm (split .before) x (split .after) (split .split)
 
   pub remove-keeps : WellFormed s n (removed how s image r x)
   remove-keeps =
-      well-formed-after replaced killed w (sound-remove how (regionOf s image r) firm (split .before) x (split .after) (split .split))
+      well-formed-after replaced killed w (sound-remove how (regionOf s image r) plain firm (split .before) x (split .after) (split .split))
       (λ y z. absurd z) (λ y z a b. absurd a) (λ y z q a b c. absurd a)
 
   pub remove-unbinds : (key′ : ℕ) (value′ : List ℕ) → Bound s n (removed how s image r x) key′ value′ ↔ (Bound s n image key′ value′ × (key′ ≡ x .key → ⊥))
@@ -159,7 +160,7 @@ module _ {s n : ℕ} {image : List ℕ} (w : WellFormed s n image) (r : ℕ) (h 
   wiped = erase-effect s (regionOf s image r) dull
 
   pub erase-keeps : WellFormed s n (eraseRegion s r image)
-  erase-keeps = well-formed-after (erase-changes r (w .fits) h) wiped w (sound-blank s) (λ y z. absurd z) (λ y z a b. absurd a) (λ y z q a b c. absurd a)
+  erase-keeps = well-formed-after (erase-changes r (w .fits) (w .bytes) h) wiped w (sound-blank s) (λ y z. absurd z) (λ y z a b. absurd a) (λ y z q a b c. absurd a)
 
   pub erase-binds : (key′ : ℕ) (value′ : List ℕ) → Bound s n (eraseRegion s r image) key′ value′ ↔ Bound s n image key′ value′
   erase-binds key′ value′ = (to, from)
@@ -169,9 +170,9 @@ module _ {s n : ℕ} {image : List ℕ} (w : WellFormed s n image) (r : ℕ) (h 
           ⊎-elim
           (λ old. carried b (old .0) (sym (old .1)))
           (λ new. absurd (new .1))
-          (live-before (erase-changes r (w .fits) h) wiped (b .region) (b .rec) (b .held))
+          (live-before (erase-changes r (w .fits) (w .bytes) h) wiped (b .region) (b .rec) (b .held))
 
       from : Bound s n image key′ value′ → Bound s n (eraseRegion s r image) key′ value′
       from b =
-          let (m, same) = live-after (erase-changes r (w .fits) h) wiped (b .region) (b .rec) (b .held) (λ _ g. g) in
+          let (m, same) = live-after (erase-changes r (w .fits) (w .bytes) h) wiped (b .region) (b .rec) (b .held) (λ _ g. g) in
           carried b m same

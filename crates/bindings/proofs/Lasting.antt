@@ -9,20 +9,21 @@ use mathlib.Core.List.{List, [], _∷_}
 use lib.ListN.{length}
 use Rattle.chip.specs.Chip.{Bytes, erased}
 use Rattle.chip.specs.Geometry.{regionOf}
-use Rattle.region.specs.declared.Want.{Want}
-use Rattle.region.specs.declared.Event.{Event}
-use Rattle.region.specs.Walk.{eventIn}
+use Rattle.region.specs.declared.Removal.{Removal}
+use Rattle.region.proofs.Numbers.{no-bytes}
 use Rattle.lookup.specs.declared.Need.{Need}
-use Rattle.lookup.specs.declared.Hit.{Hit}
-use Rattle.lookup.specs.Lookup.{hitOf}
-use Rattle.store.specs.declared.Removal.{Removal}
-use Rattle.store.specs.Store.{Done, appendOf, removeBy, removeOf, getOf, startsAnew, initialiseBy, initialiseOf}
+use Rattle.lookup.specs.declared.Seen.{Seen}
+use Rattle.lookup.specs.declared.Turn.{Turn}
+use Rattle.lookup.specs.Turns.{turnOf, onTurn, readFrom}
+use Rattle.plans.specs.Answers.{startsAnew}
+use Rattle.store.specs.Write.{Done, appendOf, removeOf, initialiseBy, initialiseOf}
+use Rattle.store.specs.Read.{getOf}
 use Rattle.store.specs.Call.{Call, get, append, remove, collect, initialise, imageAfter}
 use Rattle.bindings.specs.WellFormed.{WellFormed, Bound}
-use Rattle.bindings.specs.Calls.{Typed, typed-get, typed-append, typed-remove, typed-collect, typed-initialise, Spares, spares-get, spares-append, spares-remove, spares-collect, spares-initialise, imageAfterAll, SparesAll, onRead, regionsRead}
+use Rattle.bindings.specs.Calls.{Typed, typed-get, typed-append, typed-remove, typed-collect, typed-initialise, Spares, spares-get, spares-append, spares-remove, spares-collect, spares-initialise, imageAfterAll, SparesAll}
 use Rattle.bindings.proofs.Images.{blank-well-formed}
 use Rattle.bindings.proofs.Lookups.{found-live}
-use Rattle.bindings.proofs.Outcomes.{Hitting, hitting, Appending, appending}
+use Rattle.bindings.proofs.Outcomes.{Removing, removing, Appending, appending}
 use Rattle.bindings.proofs.Kept.{append-keeps, append-binds, remove-keeps, remove-unbinds}
 use Rattle.bindings.proofs.Collects.{collect-done}
 
@@ -46,25 +47,18 @@ module _ {s n : ℕ} {image : List ℕ} (w : WellFormed s n image) where
   append-holds key value k v d (Appending.wrote seen r o a e h y) key′ value′ b = append-binds w key value k v a seen e r o h y key′ value′ .1 (inr b)
 
   -- a removal
-  remove-leaves : (how : Removal) (key : ℕ) (t : Hit) → Hitting image s n key t → WellFormed s n (removeBy how s image t .image)
-  remove-leaves how key t (Hitting.early z e) = w
-  remove-leaves how key t (Hitting.bad f p a e) = w
-  remove-leaves how key t (Hitting.missing seen a e) = w
-  remove-leaves how key t (Hitting.hit r x a e) = remove-keeps w how r x (found-live w key Need.Nothing r x e .0)
+  remove-leaves : (how : Removal) (key : ℕ) (d : Done) → Removing how image s n key d → WellFormed s n (d .image)
+  remove-leaves how key d (Removing.not-hit z t) = w
+  remove-leaves how key d (Removing.removes r x e) = remove-keeps w how r x (found-live w key Need.Nothing r x e .0)
 
-  remove-holds : (how : Removal) (key : ℕ) (t : Hit) → Hitting image s n key t → (key′ : ℕ) (value′ : List ℕ) → (key ≡ key′ → ⊥)
-      → Bound s n image key′ value′ → Bound s n (removeBy how s image t .image) key′ value′
-  remove-holds how key t (Hitting.early z e) key′ value′ d b = b
-  remove-holds how key t (Hitting.bad f p a e) key′ value′ d b = b
-  remove-holds how key t (Hitting.missing seen a e) key′ value′ d b = b
-  remove-holds how key t (Hitting.hit r x a e) key′ value′ d b =
+  remove-holds : (how : Removal) (key : ℕ) (d : Done) → Removing how image s n key d → (key′ : ℕ) (value′ : List ℕ) → (key ≡ key′ → ⊥)
+      → Bound s n image key′ value′ → Bound s n (d .image) key′ value′
+  remove-holds how key d (Removing.not-hit z t) key′ value′ other b = b
+  remove-holds how key d (Removing.removes r x e) key′ value′ other b =
       let (l, q) = found-live w key Need.Nothing r x e in
-      remove-unbinds w how r x l key′ value′ .1 (b, λ p. d (sym q ∙ sym p))
+      remove-unbinds w how r x l key′ value′ .1 (b, λ p. other (sym q ∙ sym p))
 
 -- Any call.
-
-no-bytes : Bytes []
-no-bytes k = omega arith
 
 module _ {s n : ℕ} {image : List ℕ} (w : WellFormed s n image) where
   initialise-leaves : (key : ℕ) → key < 2 ^ 64 → (t : Bool) → startsAnew (getOf image s n key [] .answer) ≡ t → WellFormed s n (initialiseBy image s n key (getOf image s n key [] .answer) .image)
@@ -77,18 +71,18 @@ module _ {s n : ℕ} {image : List ℕ} (w : WellFormed s n image) where
   initialise-holds key e key′ value′ b = rw e b
 
   pub call-keeps : (c : Call) → Typed c → WellFormed s n (imageAfter c image s n)
-  unfolding removeOf initialiseOf
+  unfolding initialiseOf
   call-keeps (get key buffer) typed-get = w
   call-keeps (append key value) (typed-append k v) = append-leaves w key value k v (appendOf image s n key value) (appending image s n key value)
-  call-keeps (remove how key) typed-remove = remove-leaves w how key (hitOf image s n key) (hitting image s n key)
+  call-keeps (remove how key) typed-remove = remove-leaves w how key (removeOf how image s n key) (removing how image s n key)
   call-keeps collect typed-collect = collect-done w .0 .kept
   call-keeps (initialise key) (typed-initialise k) = initialise-leaves key k (startsAnew (getOf image s n key [] .answer)) refl
 
   pub call-holds : (c : Call) → Typed c → (key : ℕ) → Spares s n key image c → (value : List ℕ) → Bound s n image key value → Bound s n (imageAfter c image s n) key value
-  unfolding removeOf initialiseOf
+  unfolding initialiseOf
   call-holds (get k buffer) typed-get key spares-get value b = b
   call-holds (append k v) (typed-append h i) key spares-append value b = append-holds w k v h i (appendOf image s n k v) (appending image s n k v) key value b
-  call-holds (remove how k) typed-remove key (spares-remove d) value b = remove-holds w how k (hitOf image s n k) (hitting image s n k) key value d b
+  call-holds (remove how k) typed-remove key (spares-remove d) value b = remove-holds w how k (removeOf how image s n k) (removing how image s n k) key value d b
   call-holds collect typed-collect key spares-collect value b = collect-done w .0 .same key value .1 b
   call-holds (initialise k) (typed-initialise h) key (spares-initialise e) value b = initialise-holds k e key value b
 
@@ -100,12 +94,12 @@ all-hold s n key value [] image w b SparesAll.none = (w, b)
 all-hold s n key value (c ∷ cs) image w b (SparesAll.also t p rest) = all-hold s n key value cs (imageAfter c image s n) (call-keeps w c t) (call-holds w c t key p value b) rest
 
 -- a lookup reads no more regions than it is given
-pub read-most : (key s : ℕ) (image rs : List ℕ) → length (regionsRead key s image rs) ≤ length rs
-unfolding regionsRead
-read-most key s image [] = omega arith
-read-most key s image (r ∷ rs) = go (eventIn (regionOf s image r) (Want.Key key)) (read-most key s image rs)
+pub read-most : (seen : Seen) (key : ℕ) (need : Need) (s : ℕ) (image rs : List ℕ) → length (readFrom seen key need s image rs) ≤ length rs
+unfolding readFrom
+read-most seen key need s image [] = omega arith
+read-most seen key need s image (r ∷ rs) = go (turnOf seen key need r (regionOf s image r)) (λ more. read-most more key need s image rs)
   where
-    go : (e : Event) → length (regionsRead key s image rs) ≤ length rs → length (onRead r e (regionsRead key s image rs)) ≤ suc (length rs)
-    go (Event.Live x) h = omega arith
-    go (Event.Bad f o) h = omega arith
-    go (Event.End o) h = omega arith
+    go : (t : Turn) → ((more : Seen) → length (readFrom more key need s image rs) ≤ length rs)
+        → suc (length (onTurn t (λ looked. []) (λ more. readFrom more key need s image rs))) ≤ suc (length rs)
+    go (Turn.Stop looked) h = omega arith
+    go (Turn.More more) h = omega (arith, h more)

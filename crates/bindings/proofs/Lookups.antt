@@ -2,11 +2,10 @@
 -- Assumes nothing.
 use Prim.Native.Nat.{ℕ}
 use native.Mathlib.Omega.{arith}
-use mathlib.Core.Path.{_≡_, refl, sym, _∙_, ap, subst}
-use mathlib.Core.Bool.{Bool, true, false, _&&_, true≢false}
-use mathlib.Core.List.{List, [], _∷_, List·Memᴰ, List·Memᴰ·head, List·Memᴰ·tail}
-use lib.Dec.{eqb}
-use borrow.Author.Tests.{eqb-true, eq-eqb}
+use mathlib.Core.Path.{_≡_, refl, sym, _∙_, subst}
+use mathlib.Core.Bool.{true, false, true≢false}
+use mathlib.Core.List.{List, List·Memᴰ, List·Memᴰ·head, List·Memᴰ·tail, List·Memᴰ·not-nil}
+use borrow.Author.Tests.{eq-eqb}
 use Rattle.chip.specs.Geometry.{regionOf}
 use Rattle.probe.specs.Probe.{probes}
 use Rattle.probe.proofs.Theorems.{members}
@@ -21,56 +20,36 @@ use Rattle.region.proofs.Theorems.{live-decides, stop-decides}
 use Rattle.lookup.specs.declared.Need.{Need}
 use Rattle.lookup.specs.declared.Seen.{Seen}
 use Rattle.lookup.specs.declared.Looked.{Looked}
-use Rattle.lookup.specs.Lookup.{onEvent, firstDecides, gathered, lookupIn}
-use Rattle.lookup.proofs.Scan.{found}
+use Rattle.lookup.specs.Turns.{lookupIn}
+use Rattle.lookup.proofs.Scan.{Looks, looks-so, found}
+use Rattle.pinned.proofs.Swept.{every-member}
+use Rattle.pinned.proofs.Written.{wanted}
 use Rattle.bindings.specs.WellFormed.{Live, WellFormed}
-use Rattle.bindings.proofs.Members.{every-member, middle}
+use Rattle.bindings.proofs.Members.{middle}
 
--- a record is wanted where it is live and has the key
-pub wanted : (key : ℕ) (x : Record) → isWanted (Want.Key key) x ≡ true → (live x ≡ true) × (x .key ≡ key)
-wanted key x h = go (live x) refl (eqb (x .key) key) refl h
-  where
-    go : (a : Bool) → live x ≡ a → (b : Bool) → eqb (x .key) key ≡ b → (a && b) ≡ true → (live x ≡ true) × (x .key ≡ key)
-    go true p true q h = (p, eqb-true _ _ q)
-    go true p false q h = absurd (true≢false (sym h))
-    go false p b q h = absurd (true≢false (sym h))
-
-pub is-wanted : (key : ℕ) (x : Record) → live x ≡ true → x .key ≡ key → isWanted (Want.Key key) x ≡ true
+-- a live record of the key is wanted
+is-wanted : (key : ℕ) (x : Record) → live x ≡ true → x .key ≡ key → isWanted (Want.Key key) x ≡ true
 is-wanted key x l k = rw (l, eq-eqb (x .key) key k)
 
--- Where a lookup ends at a bad place, one of its regions has one.
-bad-from : (key s : ℕ) (image rs : List ℕ) (seen : Seen) (f : Fault) (p : ℕ) → firstDecides key s image rs (Looked.Through seen) ≡ Looked.Bad f p
-    → (r : ℕ) × List·Memᴰ r rs × ((o : ℕ) × (eventIn (regionOf s image r) (Want.Key key) ≡ Event.Bad f o))
-unfolding firstDecides
-bad-from key s image [] seen f p h = absurd (let z : _≡_ {A = ℕ} 0 1 = cc in omega arith)
-bad-from key s image (q ∷ rs) seen f p h = go (bad-from key s image rs seen f p) (eventIn (regionOf s image q) (Want.Key key)) refl h
-  where
-    go : (firstDecides key s image rs (Looked.Through seen) ≡ Looked.Bad f p → (r : ℕ) × List·Memᴰ r rs × ((o : ℕ) × (eventIn (regionOf s image r) (Want.Key key) ≡ Event.Bad f o)))
-        → (e : Event) → eventIn (regionOf s image q) (Want.Key key) ≡ e → onEvent s q e (firstDecides key s image rs (Looked.Through seen)) ≡ Looked.Bad f p
-        → (r : ℕ) × List·Memᴰ r (q ∷ rs) × ((o : ℕ) × (eventIn (regionOf s image r) (Want.Key key) ≡ Event.Bad f o))
-    go ih (Event.Live y) e h = absurd (let z : _≡_ {A = ℕ} 0 1 = cc in omega arith)
-    go ih (Event.Bad g o) e h = (q, List·Memᴰ·head refl, (o, e ∙ (let same : g ≡ f = cc in ap (λ (t : Fault). Event.Bad t o) same)))
-    go ih (Event.End o) e h = let (r, m, t) = ih h in (r, List·Memᴰ·tail m, t)
+module _ (key : ℕ) (need : Need) (s : ℕ) (image : List ℕ) where
+  -- Where a lookup ends at a bad place, one of its regions has one.
+  bad-from : {seen : Seen} {rs : List ℕ} {f : Fault} {p : ℕ} → Looks key need s image seen rs (Looked.Bad f p)
+      → (r : ℕ) × List·Memᴰ r rs × ((o : ℕ) × (eventIn (regionOf s image r) (Want.Key key) ≡ Event.Bad f o))
+  bad-from (Looks.bad {r = r} {o = o} e) = (r, List·Memᴰ·head refl, (o, e))
+  bad-from (Looks.more e rest) = let (r, m, t) = bad-from rest in (r, List·Memᴰ·tail m, t)
 
--- Where a lookup goes through all regions, none has a live record of the key.
-through-none : (key s : ℕ) (image rs : List ℕ) (seen got : Seen) → firstDecides key s image rs (Looked.Through seen) ≡ Looked.Through got
-    → (r : ℕ) → List·Memᴰ r rs → None (isWanted (Want.Key key)) (records (regionOf s image r))
-unfolding firstDecides
-through-none key s image (q ∷ rs) seen got h r m = go (through-none key s image rs seen got) (eventIn (regionOf s image q) (Want.Key key)) refl h m
-  where
-    go : (firstDecides key s image rs (Looked.Through seen) ≡ Looked.Through got → (r : ℕ) → List·Memᴰ r rs → None (isWanted (Want.Key key)) (records (regionOf s image r)))
-        → (e : Event) → eventIn (regionOf s image q) (Want.Key key) ≡ e → onEvent s q e (firstDecides key s image rs (Looked.Through seen)) ≡ Looked.Through got
-        → List·Memᴰ r (q ∷ rs) → None (isWanted (Want.Key key)) (records (regionOf s image r))
-    go ih (Event.Live y) e h m = absurd (let z : _≡_ {A = ℕ} 0 1 = cc in omega arith)
-    go ih (Event.Bad f o) e h m = absurd (let z : _≡_ {A = ℕ} 0 1 = cc in omega arith)
-    go ih (Event.End o) e h (List·Memᴰ·head p) = rw p (stop-decides (regionOf s image q) (Want.Key key) (Stop.End o) e .0)
-    go ih (Event.End o) e h (List·Memᴰ·tail m) = ih h r m
+  -- Where it goes through all regions, none has a live record of the key.
+  through-none : {seen got : Seen} {rs : List ℕ} → Looks key need s image seen rs (Looked.Through got)
+      → (r : ℕ) → List·Memᴰ r rs → None (isWanted (Want.Key key)) (records (regionOf s image r))
+  through-none Looks.over r m = absurd (List·Memᴰ·not-nil m)
+  through-none (Looks.more {r = q} {o = o} e rest) r (List·Memᴰ·head p) = rw p (stop-decides (regionOf s image q) (Want.Key key) (Stop.End o) e .0)
+  through-none (Looks.more e rest) r (List·Memᴰ·tail m) = through-none rest r m
 
 module _ {s n : ℕ} {image : List ℕ} (w : WellFormed s n image) (key : ℕ) (need : Need) where
   -- no bad place is met
   pub never-bad : (f : Fault) (p : ℕ) → lookupIn key need s image (probes key n) ≡ Looked.Bad f p → ⊥
   never-bad f p h =
-      let (r, m, (o, e)) = bad-from key s image (probes key n) (gathered need s image (probes key n)) f p h in
+      let (r, m, (o, e)) = bad-from key need s image (looks-so key need s image h) in
       let (_, stop) = stop-decides (regionOf s image r) (Want.Key key) (Stop.Bad f o) e in
       let (q, end) = w .no-bad r (members key n r (w .fits .shape .n-least) .1 m) in
       let z : _≡_ {A = ℕ} 0 1 = cc in
@@ -80,7 +59,7 @@ module _ {s n : ℕ} {image : List ℕ} (w : WellFormed s n image) (key : ℕ) (
   pub not-there : (seen : Seen) → lookupIn key need s image (probes key n) ≡ Looked.Through seen → (r : ℕ) (x : Record) → Live s n image r x → x .key ≡ key → ⊥
   not-there seen h r x l k =
       let m = members key n r (w .fits .shape .n-least) .0 (l .stored .number) in
-      let dull = through-none key s image (probes key n) (gathered need s image (probes key n)) seen h r m in
+      let dull = through-none key need s image (looks-so key need s image h) r m in
       true≢false (sym (is-wanted key x (l .alive) k) ∙ every-member dull (l .stored .member))
 
   -- a live record that is found is live in the image, and has the key

@@ -1,15 +1,8 @@
 -- Records in lists, and a record that stands among those of a region.
 -- Assumes nothing.
-
-use mathlib.Core.Path.{_≡_, refl, sym, ap, subst}
+use mathlib.Core.Path.{_≡_, refl, sym, ap}
 use mathlib.Core.Logic.{_⊎_, inl, inr, ⊎-elim}
 use mathlib.Core.List.{List, [], _∷_, _++_, List·Memᴰ, List·Memᴰ·head, List·Memᴰ·tail, List·Memᴰ·cases-cons, Memᴰ·append-left, Memᴰ·append-right, List·Memᴰ·append-cases}
-use Rattle.chip.proofs.Lists.{Every}
-
--- what holds of every element holds of a member
-pub every-member : {A : Type 0} {P : A → Type 0} {xs : List A} {x : A} → Every P xs → List·Memᴰ x xs → P x
-every-member {P} (Every.also p k) (List·Memᴰ·head e) = subst (λ y. P y) (sym e) p
-every-member (Every.also p k) (List·Memᴰ·tail m) = every-member k m
 
 -- a member splits its list
 pub record Around {A : Type 0} (xs : List A) (x : A) : Type 0 where

@@ -11,23 +11,26 @@ use Rattle.chip.specs.Chip.{erased}
 use Rattle.chip.specs.Geometry.{geometry, regionOf}
 use Rattle.chip.proofs.Laws.{blank-take}
 use Rattle.probe.specs.Probe.{allowedKey}
-use Rattle.region.specs.Record.{recordLength, checkSumFits}
-use Rattle.region.specs.Walk.{bytesIn}
-use Rattle.lookup.specs.declared.Refusal.{Refusal}
-use Rattle.lookup.specs.declared.Check.{Check}
+use Rattle.region.specs.declared.Record.{Record}
+use Rattle.region.specs.declared.Removal.{Removal}
+use Rattle.region.specs.Layout.{recordLength, checkSumFits}
+use Rattle.region.specs.Walk.{bytesIn, valueLength}
+use Rattle.lookup.specs.declared.refusals.Refusal.{Refusal}
+use Rattle.lookup.specs.declared.refusals.Check.{Check}
 use Rattle.lookup.specs.declared.Need.{Need}
 use Rattle.lookup.specs.declared.Hit.{Hit}
-use Rattle.lookup.specs.Refusals.{number}
-use Rattle.lookup.specs.Lookup.{firstRefusal, hitOf}
-use Rattle.store.specs.declared.Removal.{Removal}
-use Rattle.store.specs.declared.Answer.{Answer}
-use Rattle.store.specs.Answer.{refusal}
-use Rattle.store.specs.Store.{Done, valueLength, readAnswer, gotBy, getOf, appendOf, removeBy, removeOf, collectOf, startsAnew, initialiseBy, initialiseOf}
+use Rattle.lookup.specs.Refusals.{number, firstRefusal}
+use Rattle.lookup.specs.Turns.{hitOf}
+use Rattle.plans.specs.declared.Answer.{Answer}
+use Rattle.plans.specs.Answers.{refusal, startsAnew}
+use Rattle.store.specs.Write.{Done, appendOf, removeOf, initialiseBy, initialiseOf}
+use Rattle.store.specs.Read.{readAnswer, gotBy, getOf}
+use Rattle.store.specs.Collect.{collectOf}
 use Rattle.store.specs.Call.{Call, get, append, remove, collect, initialise, answerOf}
 use Rattle.bindings.specs.WellFormed.{WellFormed}
 use Rattle.bindings.proofs.Images.{blank-well-formed}
 use Rattle.bindings.proofs.Lookups.{never-bad, found-live}
-use Rattle.bindings.proofs.Outcomes.{Hitting, hitting, Appending, appending}
+use Rattle.bindings.proofs.Outcomes.{Hitting, hitting, Removing, removing, Appending, appending}
 use Rattle.bindings.proofs.Collects.{collect-done}
 
 -- none of the three
@@ -57,33 +60,34 @@ sane-early : (w : Refusal) → number w ≤ 3 → Sane (Answer.Refused w)
 sane-early w h = record { version = λ q. omega arith; corrupt = λ q. omega arith; sum = λ q. omega arith }
 
 module _ {s n : ℕ} {image : List ℕ} (w : WellFormed s n image) where
-  read-sane : (bytes : List ℕ) (room : ℕ) → checkSumFits bytes ≡ true → Sane (readAnswer bytes room)
-  read-sane bytes room c = rw c (go (ltb room (valueLength bytes)))
+  read-sane : (region : List ℕ) (x : Record) (capacity : ℕ) → checkSumFits (bytesIn region x) ≡ true → Sane (readAnswer region x capacity)
+  read-sane region x capacity c = rw c (go (ltb capacity (valueLength x)))
     where
-      go : (b : Bool) → Sane (cond b (Answer.Refused (Refusal.BufferTooSmall (valueLength bytes))) (Answer.Complete (valueLength bytes)))
+      go : (b : Bool) → Sane (cond b (Answer.Refused (Refusal.BufferTooSmall (valueLength x))) (Answer.Complete (valueLength x)))
       go true = sane-at _ 9 refl (λ q. omega arith) (λ q. omega arith) (λ q. omega arith)
       go false = sane-at _ 0 refl (λ q. omega arith) (λ q. omega arith) (λ q. omega arith)
 
+  miss-sane : (key : ℕ) (z : Refusal) → Hitting image s n key (Hit.Refused z) → Sane (Answer.Refused z)
+  miss-sane key _ (Hitting.early z e) = sane-early z (first-number image s n key 0 z e)
+  miss-sane key z (Hitting.bad f p a e) = absurd (never-bad w key Need.Nothing f p e)
+  miss-sane key z (Hitting.missing seen a e) = sane-at _ 4 refl (λ q. omega arith) (λ q. omega arith) (λ q. omega arith)
+
   get-sane : (key : ℕ) (buffer : List ℕ) (t : Hit) → Hitting image s n key t → Sane (gotBy s image buffer t .answer)
-  get-sane key buffer t (Hitting.early z e) = sane-early z (first-number image s n key 0 z e)
-  get-sane key buffer t (Hitting.bad f p a e) = absurd (never-bad w key Need.Nothing f p e)
-  get-sane key buffer t (Hitting.missing seen a e) = sane-at _ 4 refl (λ q. omega arith) (λ q. omega arith) (λ q. omega arith)
-  get-sane key buffer t (Hitting.hit r x a e) = read-sane (bytesIn (regionOf s image r) x) (length buffer) (w .sums r x (found-live w key Need.Nothing r x e .0))
+  get-sane key buffer (Hit.Refused z) h = miss-sane key z h
+  get-sane key buffer (Hit.Live _ _) (Hitting.hit r x a e) = read-sane (regionOf s image r) x (length buffer) (w .sums r x (found-live w key Need.Nothing r x e .0))
 
   append-sane : (key : ℕ) (value : List ℕ) (d : Done) → Appending image s n key value d → Sane (d .answer)
   append-sane key value d (Appending.early z e) = sane-early z (first-number image s n key (length value) z e)
   append-sane key value d (Appending.there r x a e) = sane-at _ 5 refl (λ q. omega arith) (λ q. omega arith) (λ q. omega arith)
-  append-sane key value d (Appending.bad f p a e) = absurd (never-bad w key (Need.Room (recordLength value)) f p e)
+  append-sane key value d (Appending.bad f p a e) = absurd (never-bad w key (Need.Room (recordLength (length value))) f p e)
   append-sane key value d (Appending.full seen a e q) = sane-at _ 6 refl (λ q. omega arith) (λ q. omega arith) (λ q. omega arith)
   append-sane key value d (Appending.unblank seen r o a e h y) =
-      absurd (true≢false (sym (blank-take (recordLength value) (drop o (regionOf s image r)) (w .tails r o h (y .ends))) ∙ sym (y .blankness)))
+      absurd (true≢false (sym (blank-take (recordLength (length value)) (drop o (regionOf s image r)) (w .tails r o h (y .ends))) ∙ sym (y .blankness)))
   append-sane key value d (Appending.wrote seen r o a e h y) = sane-at _ 0 refl (λ q. omega arith) (λ q. omega arith) (λ q. omega arith)
 
-  remove-sane : (how : Removal) (key : ℕ) (t : Hit) → Hitting image s n key t → Sane (removeBy how s image t .answer)
-  remove-sane how key t (Hitting.early z e) = sane-early z (first-number image s n key 0 z e)
-  remove-sane how key t (Hitting.bad f p a e) = absurd (never-bad w key Need.Nothing f p e)
-  remove-sane how key t (Hitting.missing seen a e) = sane-at _ 4 refl (λ q. omega arith) (λ q. omega arith) (λ q. omega arith)
-  remove-sane how key t (Hitting.hit r x a e) = sane-at _ 0 refl (λ q. omega arith) (λ q. omega arith) (λ q. omega arith)
+  remove-sane : (how : Removal) (key : ℕ) (d : Done) → Removing how image s n key d → Sane (d .answer)
+  remove-sane how key d (Removing.not-hit z t) = miss-sane key z t
+  remove-sane how key d (Removing.removes r x e) = sane-at _ 0 refl (λ q. omega arith) (λ q. omega arith) (λ q. omega arith)
 
   collect-sane : Sane (collectOf image s n .answer)
   collect-sane = let (f, e) = collect-done w .1 in sane-at (collectOf image s n .answer) 0 (ap refusal e) (λ q. omega arith) (λ q. omega arith) (λ q. omega arith)
@@ -94,9 +98,9 @@ module _ {s n : ℕ} {image : List ℕ} (w : WellFormed s n image) where
   initialise-sane key true e h = rw e (append-sane (blank-well-formed (w .fits .shape)) key [] (appendOf (erased (n * s)) s n key []) (appending (erased (n * s)) s n key []))
 
   pub call-sane : (c : Call) → Sane (answerOf c image s n)
-  unfolding getOf removeOf initialiseOf
+  unfolding getOf initialiseOf
   call-sane (get key buffer) = get-sane w key buffer (hitOf image s n key) (hitting image s n key)
   call-sane (append key value) = append-sane w key value (appendOf image s n key value) (appending image s n key value)
-  call-sane (remove how key) = remove-sane w how key (hitOf image s n key) (hitting image s n key)
+  call-sane (remove how key) = remove-sane w how key (removeOf how image s n key) (removing how image s n key)
   call-sane collect = collect-sane w
   call-sane (initialise key) = initialise-sane key (startsAnew (getOf image s n key [] .answer)) refl (get-sane w key [] (hitOf image s n key) (hitting image s n key))

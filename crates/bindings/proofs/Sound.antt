@@ -7,22 +7,17 @@ use mathlib.Core.Bool.{true, false, false≢true}
 use mathlib.Core.Logic.{_⊎_, inl, inr, ⊎-elim}
 use mathlib.Core.List.{List, [], _∷_, _++_}
 use lib.ListN.{length, take, drop, length-drop}
-use lib.Seq.{sets, drop-drop, getD-drop}
+use lib.Seq.{drop-drop, getD-drop}
 use Rattle.chip.specs.Chip.{Bytes, written, erased, isBlank}
-use Rattle.chip.proofs.Lists.{Every, every-join, every-split, sets-after}
+use Rattle.chip.proofs.Lists.{Every, every-join, every-split}
 use Rattle.chip.proofs.Laws.{blank-at, at-blank, blank-take, blank-erased}
-use Rattle.chip.proofs.Theorems.{over-blank}
 use Rattle.region.specs.declared.Record.{Record}
 use Rattle.region.specs.declared.Stop.{Stop}
-use Rattle.region.specs.Record.{recordLength, recordBytes, appended, checkSumFits}
+use Rattle.region.specs.declared.Removal.{Removal}
+use Rattle.region.specs.Layout.{recordLength, recordBytes, killPlace, killBytes, checkSumFits}
 use Rattle.region.specs.Walk.{live, View, walkFrom, records, ending, bytesIn, recordOf, dead}
-use Rattle.region.proofs.Bytes.{length-record, record-bytes}
 use Rattle.region.proofs.Same.{Kept}
-use Rattle.region.proofs.Change.{Buried, walk-buried, kept-buried}
-use Rattle.region.proofs.Kill.{invalidate-buries, zeroise-buries}
-use Rattle.region.proofs.Theorems.{records-within, stops-behind, reads-back, append-adds, append-writes, blank-region, dead-not-live}
-use Rattle.store.specs.declared.Removal.{Removal}
-use Rattle.store.specs.Store.{removalPlace, removalBytes}
+use Rattle.region.proofs.Theorems.{stops-behind, reads-back, append-adds, append-writes, append-tail, removal-kills, removal-tail, blank-region, dead-not-live}
 
 -- what holds of each record
 pub record Good (region : List ℕ) (x : Record) : Type 0 where
@@ -53,55 +48,40 @@ blank-later region o p h b =
 
 -- Append.
 
-module _ (region : List ℕ) (s : Sound region) (key : ℕ) (value : List ℕ) (fits : s .end + recordLength value ≤ length region) (k : key < 2 ^ 64) (l : length value ≤ 4079) (v : Bytes value) where
-  added : List ℕ
-  added = appended region (s .end) key value
+module _ (region : List ℕ) (s : Sound region) (key : ℕ) (value : List ℕ) (fits : s .end + recordLength (length value) ≤ length region) (k : key < 2 ^ 64) (l : length value ≤ 4079) (v : Bytes value) where
+  place-blank : isBlank (take (recordLength (length value)) (drop (s .end) region)) ≡ true
+  place-blank = blank-take (recordLength (length value)) (drop (s .end) region) (s .tail)
 
-  place-blank : isBlank (take (recordLength value) (drop (s .end) region)) ≡ true
-  place-blank = blank-take (recordLength value) (drop (s .end) region) (s .tail)
-
-  pub append-view : (walkFrom (appended region (s .end) key value) 0 ≡ record { recs = records region ++ recordOf (s .end) key value ∷ []; stop = Stop.End (s .end + recordLength value) })
-      × Kept (appended region (s .end) key value) region (records region)
+  pub append-view : (walkFrom (written region (s .end) (recordBytes key value)) 0 ≡ record { recs = records region ++ recordOf (s .end) key value ∷ []; stop = Stop.End (s .end + recordLength (length value)) })
+      × Kept (written region (s .end) (recordBytes key value)) region (records region)
   append-view = append-adds region (s .end) key value (s .ends) (s .tail) fits k l v
 
-  pub sound-append : Sound (appended region (s .end) key value)
+  pub sound-append : Sound (written region (s .end) (recordBytes key value))
   sound-append =
       let o = s .end in
-      let r′ = appended region o key value in
+      let r′ = written region o (recordBytes key value) in
       let new = recordOf o key value in
       let (view, kept) = append-view in
-      let n = length-record key value in
-      let f : o + length (recordBytes key value) ≤ length region = omega arith in
-      let stores : r′ ≡ sets region o (recordBytes key value) = over-blank region o (recordBytes key value) (record-bytes key value l v) f (rw n place-blank) in
-      let rest : drop (o + recordLength value) r′ ≡ drop (o + recordLength value) region =
-      subst (λ (m : ℕ). drop (o + m) r′ ≡ drop (o + m) region) n (subst (λ (t : List ℕ). drop (o + length (recordBytes key value)) t ≡ drop (o + length (recordBytes key value)) region) (sym stores) (sets-after region o (recordBytes key value) f)) in
       let sum : checkSumFits (bytesIn r′ new) ≡ true = rw (append-writes region o key value place-blank fits l v) (reads-back key value k l .3) in
       let good : Every (Good r′) (records region ++ new ∷ []) = every-join (good-kept r′ region (records region) kept (s .good)) (Every.also {x = new} (record { flags = inl refl; length-most = omega arith; sum = λ _. sum }) Every.none) in
       record {
-        end = o + recordLength value;
+        end = o + recordLength (length value);
         ends = ap (λ (w : View). w .stop) view;
         good = subst (λ (w : View). Every (Good r′) (w .recs)) (sym view) good;
-        tail = rw rest (blank-later region o (o + recordLength value) (omega arith) (s .tail));
+        tail = rw (append-tail region o key value (s .tail) fits l v) (blank-later region o (o + recordLength (length value)) (omega arith) (s .tail));
       }
 
 -- The removals, over what they write.
 
 abbrev pub removedFrom : Removal → List ℕ → Record → List ℕ
-removedFrom how region x = written region (removalPlace how x) (removalBytes how region x)
-
-pub removal-buries : (how : Removal) (region : List ℕ) (x : Record) → 15 ≤ x .len → x .at + x .len ≤ length region → Buried (removedFrom how region x) region x
-removal-buries Removal.Invalidate region x l f = invalidate-buries region x l f
-removal-buries Removal.Zeroise region x l f = zeroise-buries region x l f
+removedFrom how region x = written region (killPlace how x) (killBytes how x)
 
 flags-dead : (b : ℕ) → (b ≡ 8) ⊎ (b ≡ 0) → b % 8 ≡ 0
 flags-dead b h = ⊎-elim (λ e. rw e) (λ e. rw e) h
 
-module _ (how : Removal) (region : List ℕ) (s : Sound region) (a : List Record) (x : Record) (b : List Record) (e : records region ≡ a ++ x ∷ b) where
-  buried : Buried (removedFrom how region x) region x
-  buried = let (l, f) = records-within region a x b e in removal-buries how region x l f
-
+module _ (how : Removal) (region : List ℕ) (v : Bytes region) (s : Sound region) (a : List Record) (x : Record) (b : List Record) (e : records region ≡ a ++ x ∷ b) where
   pub remove-view : (walkFrom (removedFrom how region x) 0 ≡ record { recs = a ++ dead x ∷ b; stop = ending region }) × Kept (removedFrom how region x) region (a ++ b)
-  remove-view = (walk-buried (removedFrom how region x) region a x b buried e, kept-buried (removedFrom how region x) region a x b buried e)
+  remove-view = removal-kills how region a x b v e
 
   pub sound-remove : Sound (removedFrom how region x)
   sound-remove =
@@ -119,7 +99,7 @@ module _ (how : Removal) (region : List ℕ) (s : Sound region) (a : List Record
       after-end : x .at + x .len ≤ s .end → drop (s .end) (removedFrom how region x) ≡ drop (s .end) region
       after-end h =
           let j : x .at + x .len + (s .end - (x .at + x .len)) ≡ s .end = omega arith in
-          let g : drop (s .end - (x .at + x .len)) (drop (x .at + x .len) (removedFrom how region x)) ≡ drop (s .end - (x .at + x .len)) (drop (x .at + x .len) region) = ap (drop (s .end - (x .at + x .len))) (buried .after) in
+          let g : drop (s .end - (x .at + x .len)) (drop (x .at + x .len) (removedFrom how region x)) ≡ drop (s .end - (x .at + x .len)) (drop (x .at + x .len) region) = ap (drop (s .end - (x .at + x .len))) (removal-tail how region a x b e) in
           rw (drop-drop (s .end - (x .at + x .len)) (x .at + x .len) (removedFrom how region x), drop-drop (s .end - (x .at + x .len)) (x .at + x .len) region, j) at g
 
       goods : Every (Good region) a → Every (Good region) (x ∷ b) → Kept (removedFrom how region x) region (a ++ b) → Every (Good (removedFrom how region x)) (a ++ dead x ∷ b)

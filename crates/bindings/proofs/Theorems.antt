@@ -12,29 +12,31 @@ use lib.ListN.{length, getD, take, drop}
 use Rattle.chip.specs.Chip.{Bytes, erased}
 use Rattle.chip.specs.Geometry.{Shape, regionOf, eraseRegion}
 use Rattle.chip.proofs.Theorems.{erase-only}
+use Rattle.chip.proofs.Image.{region-length}
 use Rattle.probe.specs.Probe.{allowedKey, home, probes}
 use Rattle.probe.proofs.Theorems.{probes-length}
-use Rattle.chip.proofs.Image.{region-length}
 use Rattle.region.specs.declared.Stop.{Stop}
-use Rattle.region.specs.Record.{recordLength}
+use Rattle.region.specs.declared.Removal.{Removal}
+use Rattle.region.specs.Layout.{recordLength}
 use Rattle.region.specs.Walk.{ending}
-use Rattle.lookup.specs.declared.Refusal.{Refusal}
+use Rattle.lookup.specs.declared.refusals.Refusal.{Refusal}
 use Rattle.lookup.specs.declared.Need.{Need}
-use Rattle.lookup.specs.declared.Hit.{Hit}
-use Rattle.lookup.specs.Lookup.{hitOf}
-use Rattle.store.specs.declared.Answer.the-variants.{Complete, Written, Freed, Refused}
-use Rattle.store.specs.declared.Removal.{Removal}
-use Rattle.store.specs.Store.{Done, refused, getOf, appendOf, removeBy, removeOf, collectOf, initialiseOf}
-use Rattle.store.specs.Answer.{refusal}
+use Rattle.lookup.specs.Gather.{unseen}
+use Rattle.lookup.specs.Turns.{regionsRead}
+use Rattle.plans.specs.declared.Answer.the-variants.{Complete, Written, Freed, Refused}
+use Rattle.plans.specs.Answers.{refusal}
+use Rattle.store.specs.Write.{Done, refused, appendOf, removeOf, initialiseOf}
+use Rattle.store.specs.Read.{getOf}
+use Rattle.store.specs.Collect.{collectOf}
 use Rattle.store.specs.Call.{Call, answerOf, imageAfter}
 use Rattle.pinned.specs.Left.{Dead, erasedBy}
 use Rattle.pinned.proofs.Theorems.{refused-leaves, get-alters-nothing, freed-is-counted}
 use Rattle.bindings.specs.WellFormed.{EndsAt, WellFormed, Bound}
-use Rattle.bindings.specs.Calls.{Typed, imageAfterAll, SparesAll, regionsRead, OnlyCleared}
+use Rattle.bindings.specs.Calls.{Typed, imageAfterAll, SparesAll, OnlyCleared}
 use Rattle.bindings.proofs.Images.{blank-not-stored}
 use Rattle.bindings.proofs.Images as Images
 use Rattle.bindings.proofs.Lookups.{found-live}
-use Rattle.bindings.proofs.Outcomes.{Hitting, hitting, Appending, appending}
+use Rattle.bindings.proofs.Outcomes.{removed, Removing, removing, Appending, appending}
 use Rattle.bindings.proofs.Kept as Kept
 use Rattle.bindings.proofs.Collects.{collect-done}
 use Rattle.bindings.proofs.Answers as Answers
@@ -71,17 +73,14 @@ append-adds {s} {n} {image} w key value k v h = go (appendOf image s n key value
 -- "a removal takes its key's away": and no other binding.
 pub removal-takes : {s n : ℕ} {image : List ℕ} → WellFormed s n image → (how : Removal) (key : ℕ) → removeOf how image s n key .answer ≡ Written
     → (key′ : ℕ) (value′ : List ℕ) → Bound s n (removeOf how image s n key .image) key′ value′ ↔ (Bound s n image key′ value′ × (key′ ≡ key → ⊥))
-unfolding removeOf
-removal-takes {s} {n} {image} w how key h = go (hitOf image s n key) (hitting image s n key) h
+removal-takes {s} {n} {image} w how key h = go (removeOf how image s n key) (removing how image s n key) h
   where
-    go : (t : Hit) → Hitting image s n key t → removeBy how s image t .answer ≡ Written
-        → (key′ : ℕ) (value′ : List ℕ) → Bound s n (removeBy how s image t .image) key′ value′ ↔ (Bound s n image key′ value′ × (key′ ≡ key → ⊥))
-    go t (Hitting.early z e) h = absurd (let q : _≡_ {A = ℕ} 0 1 = cc in omega arith)
-    go t (Hitting.bad f p a e) h = absurd (let q : _≡_ {A = ℕ} 0 1 = cc in omega arith)
-    go t (Hitting.missing seen a e) h = absurd (let q : _≡_ {A = ℕ} 0 1 = cc in omega arith)
-    go t (Hitting.hit r x a e) h = λ key′ value′.
+    go : (d : Done) → Removing how image s n key d → d .answer ≡ Written
+        → (key′ : ℕ) (value′ : List ℕ) → Bound s n (d .image) key′ value′ ↔ (Bound s n image key′ value′ × (key′ ≡ key → ⊥))
+    go d (Removing.not-hit z t) h = absurd (let q : _≡_ {A = ℕ} 0 1 = cc in omega arith)
+    go d (Removing.removes r x e) h = λ key′ value′.
         let (l, q) = found-live w key Need.Nothing r x e in
-        subst (λ (k : ℕ). Bound s n (removeBy how s image (Hit.Live r x) .image) key′ value′ ↔ (Bound s n image key′ value′ × (key′ ≡ k → ⊥))) q (Kept.remove-unbinds w how r x l key′ value′)
+        subst (λ (k : ℕ). Bound s n (removed how s image r x) key′ value′ ↔ (Bound s n image key′ value′ × (key′ ≡ k → ⊥))) q (Kept.remove-unbinds w how r x l key′ value′)
 
 -- "a collection alters none", and it is not refused.
 pub collection-alters-none : {s n : ℕ} {image : List ℕ} → WellFormed s n image
@@ -131,17 +130,17 @@ pub stored-is-found : {s n : ℕ} {image : List ℕ} → WellFormed s n image �
     → (buffer : List ℕ) → length value ≤ length buffer
     → let later = imageAfterAll s n calls (appendOf image s n key value .image) in
     (getOf later s n key buffer ≡ record { answer = Complete (length value); buffer = value ++ drop (length value) buffer })
-    × (length (regionsRead key s later (probes key n)) ≤ n)
+    × (length (regionsRead key Need.Nothing s later (probes key n)) ≤ n)
 stored-is-found {s} {n} {image} w key value k v h calls p buffer l =
     let image′ = appendOf image s n key value .image in
     let w′ = call-keeps w (Call.append key value) (Typed.typed-append k v) in
     let b = append-adds w key value k v h key value .1 (inl (refl, refl)) in
     let (last, held) = all-hold s n key value calls image′ w′ b p in
-    (get-finds last key value buffer held l, rw (probes-length key n (w .fits .shape .n-least)) at (read-most key s (imageAfterAll s n calls image′) (probes key n)))
+    (get-finds last key value buffer held l, rw (probes-length key n (w .fits .shape .n-least)) at (read-most unseen key Need.Nothing s (imageAfterAll s n calls image′) (probes key n)))
 
 -- The August fault: the key's home region has no room left for the record. If append writes it all the same, it lies in another region, and get finds it.
 pub spilled-is-found : {s n : ℕ} {image : List ℕ} → WellFormed s n image → (key : ℕ) (value : List ℕ) → key < 2 ^ 64 → Bytes value
-    → (end : ℕ) → EndsAt (regionOf s image (home key n)) end → s < end + recordLength value
+    → (end : ℕ) → EndsAt (regionOf s image (home key n)) end → s < end + recordLength (length value)
     → appendOf image s n key value .answer ≡ Written
     → ((b : Bound s n (appendOf image s n key value .image) key value) × (b .region ≡ home key n → ⊥))
     × ((buffer : List ℕ) → length value ≤ length buffer
@@ -162,7 +161,7 @@ spilled-is-found {s} {n} {image} w key value k v end full-end full h = go (appen
         let elsewhere : r ≡ home key n → ⊥ = λ p.
         let same : Stop.End o ≡ Stop.End end = sym (y .ends) ∙ ap (λ (q : ℕ). ending (regionOf s image q)) p ∙ full-end in
         let place : o ≡ end = cc in
-        omega (arith, y .room, region-length (w .fits) i) in
+        omega (arith, y .enough, region-length (w .fits) i) in
         ((b, λ p. elsewhere (sym (Kept.new-region w key value k v a seen e r o i y) ∙ p)), λ buffer l. get-finds w′ key value buffer b l)
 
 -- On a well-formed image UnsupportedVersion, CorruptData and InvalidCheckSum never come, whatever is asked.

@@ -6,12 +6,9 @@ use mathlib.Core.List.{List, [], _∷_}
 use lib.Bits.{bitAnd}
 use lib.ListN.{getD}
 use Rattle.chip.specs.Chip.{Bytes}
-use Rattle.chip.specs.Geometry.{regionOf}
-use Rattle.region.specs.declared.Want.{Want}
-use Rattle.region.specs.declared.Event.{Event}
-use Rattle.region.specs.Walk.{eventIn}
-use Rattle.store.specs.declared.Removal.{Removal}
-use Rattle.store.specs.Store.{getOf, startsAnew}
+use Rattle.region.specs.declared.Removal.{Removal}
+use Rattle.plans.specs.Answers.{startsAnew}
+use Rattle.store.specs.Read.{getOf}
 use Rattle.store.specs.Call.{Call, get, append, remove, collect, initialise, imageAfter}
 
 -- The arguments are what the types of the calls allow: a key of 64 bits, a value of bytes.
@@ -39,16 +36,6 @@ imageAfterAll s n (c ∷ cs) image = imageAfterAll s n cs (imageAfter c image s 
 pub data SparesAll (s n key : ℕ) : List ℕ → List Call → Type 0 where
   none : {image : List ℕ} → SparesAll s n key image []
   also : {image : List ℕ} {c : Call} {cs : List Call} → Typed c → Spares s n key image c → SparesAll s n key (imageAfter c image s n) cs → SparesAll s n key image (c ∷ cs)
-
-abbrev pub onRead : ℕ → Event → List ℕ → List ℕ
-onRead r (Event.Live x) rest = r ∷ []
-onRead r (Event.Bad f o) rest = r ∷ []
-onRead r (Event.End o) rest = r ∷ rest
-
--- the regions that a lookup of the key reads, of a list in its order: up to the one that decides
-unfoldable pub regionsRead : ℕ → ℕ → List ℕ → List ℕ → List ℕ
-regionsRead key s image [] = []
-regionsRead key s image (r ∷ rs) = onRead r (eventIn (regionOf s image r) (Want.Key key)) (regionsRead key s image rs)
 
 -- every bit that is set in the new image is set in the old
 abbrev pub OnlyCleared : List ℕ → List ℕ → Type 0

@@ -5,12 +5,12 @@ use mathlib.Core.Bool.{true}
 use mathlib.Core.Logic.{_⊎_}
 use mathlib.Core.List.{List, List·Memᴰ}
 use lib.ListN.{drop}
-use Rattle.chip.specs.Chip.{isBlank}
+use Rattle.chip.specs.Chip.{Bytes, isBlank}
 use Rattle.chip.specs.Geometry.{Fits, regionOf}
 use Rattle.probe.specs.Probe.{allowedKey}
 use Rattle.region.specs.declared.Record.{Record}
 use Rattle.region.specs.declared.Stop.{Stop}
-use Rattle.region.specs.Record.{checkSumFits}
+use Rattle.region.specs.Layout.{largestLength, checkSumFits}
 use Rattle.region.specs.Walk.{live, records, ending, bytesIn, valueIn}
 
 -- x is one of the records of region r of the image
@@ -31,12 +31,14 @@ EndsAt region o = ending region ≡ Stop.End o
 pub record WellFormed (s n : ℕ) (image : List ℕ) : Type 0 where
   -- it is an image of n regions of s bytes
   pub fits : Fits image s n
+  -- made of bytes
+  pub bytes : Bytes image
   -- "no walk meets a bad place;"
   pub no-bad : (r : ℕ) → r < n → (o : ℕ) × EndsAt (regionOf s image r) o
   -- "flags are 8 or 0;"
   pub flags : (r : ℕ) (x : Record) → Stored s n image r x → (x .flags ≡ 8) ⊎ (x .flags ≡ 0)
   -- "lengths are at most 4,094;"
-  pub lengths : (r : ℕ) (x : Record) → Stored s n image r x → x .len ≤ 4094
+  pub lengths : (r : ℕ) (x : Record) → Stored s n image r x → x .len ≤ largestLength
   -- "all bytes after the last record of each region are 255;"
   pub tails : (r o : ℕ) → r < n → EndsAt (regionOf s image r) o → isBlank (drop o (regionOf s image r)) ≡ true
   -- "each live record's checksum is right"

@@ -1,8 +1,8 @@
 -- How many regions of how many bytes a chip has, and a region as a part of its image. Each definition has the sentence that it says above it.
-use Prim.Native.Nat.{ℕ, _*_, _≤_}
+use Prim.Native.Nat.{ℕ, zero, suc, _+_, _*_, _≤_}
 use mathlib.Core.Path.{_≡_}
 use mathlib.Core.Bool.{Bool, _&&_}
-use mathlib.Core.List.{List}
+use mathlib.Core.List.{List, [], _∷_}
 use lib.Dec.{leb, eqb}
 use lib.ListN.{length, take, drop}
 use lib.Seq.{sets}
@@ -47,3 +47,8 @@ regionOf s image r = take s (drop (r * s) image)
 -- "An erase makes every byte of one region 255": region r of the image is stored anew, and no other byte.
 abbrev pub eraseRegion : ℕ → ℕ → List ℕ → List ℕ
 eraseRegion s r image = sets image (r * s) (erased s)
+
+-- Regions in number order: r, r + 1 and so on, so many.
+unfoldable pub numbers : ℕ → ℕ → List ℕ
+numbers r zero = []
+numbers r (suc k) = r ∷ numbers (r + 1) k

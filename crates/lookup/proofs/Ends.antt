@@ -2,11 +2,11 @@
 -- Assumes nothing.
 use Prim.Native.Nat.{ℕ, _+_, _-_, _*_, _^_, _≤_, _<_}
 use native.Mathlib.Omega.{arith}
-use mathlib.Core.Path.{_≡_, refl, _∙_, ap}
+use mathlib.Core.Path.{_≡_, refl, sym, _∙_}
 use mathlib.Core.Bool.{Bool}
 use mathlib.Core.List.{List, [], _∷_}
 use mathlib.Core.Logic.{⊎-elim}
-use lib.ListN.{length, take, drop, length-take, length-drop}
+use lib.ListN.{length, take, drop}
 use borrow.Author.Tests.{eqb-false}
 use types.Run.{OneOf}
 use denote.Enum.Declared.{tagOf}
@@ -16,16 +16,16 @@ use Rattle.chip.proofs.Image.{place-small, region-inside, region-length}
 use Rattle.probe.specs.Probe.{probes}
 use Rattle.probe.proofs.Theorems.{members}
 use Rattle.region.specs.declared.Record.{Record}
-use Rattle.region.specs.Walk.{bytesIn}
-use Rattle.lookup.specs.declared.Check.{Check}
+use Rattle.lookup.specs.declared.refusals.Check.{Check}
 use Rattle.lookup.specs.declared.Need.{Need}
 use Rattle.lookup.specs.declared.Room.{Room}
 use Rattle.lookup.specs.declared.Seen.{Seen}
 use Rattle.lookup.specs.declared.Looked.{Looked}
 use Rattle.lookup.proofs.Looked.{the-type}
 use Rattle.lookup.specs.declared.Hit.{Hit}
-use Rattle.lookup.specs.Lookup.{firstRefusal, firstRoom, gathered, lookupIn, refusedBy, hitBy, hitAfter, hitOf}
-use Rattle.lookup.proofs.Scan.{Found, found, fine, bytes-part, through, room-from}
+use Rattle.lookup.specs.Refusals.{firstRefusal}
+use Rattle.lookup.specs.Turns.{lookupIn, refusedBy, hitBy, hitAfter, hitOf}
+use Rattle.lookup.proofs.Scan.{Found, found, fine, gathered-first, room-from}
 
 -- an end that is no live record is the refusal of what looks for one
 pub not-live : (looked : Looked) → OneOf (1 ∷ 2 ∷ []) (tagOf the-type looked) → hitBy looked ≡ Hit.Refused (refusedBy looked)
@@ -39,22 +39,10 @@ pub record Held (image : List ℕ) (s n key r : ℕ) (x : Record) : Type 0 where
   pub found : Found image s n key r x
   pub inside : r * s + s ≤ length image
   pub small : length image < 2 ^ 32
-  pub part : take (r * s + x .at + x .len - (r * s + x .at)) (drop (r * s + x .at) image) ≡ bytesIn (regionOf s image r) x
-  pub long : length (bytesIn (regionOf s image r) x) ≡ x .len
   pub size : length (regionOf s image r) ≡ s
 
 held-of : {image : List ℕ} {s n key r : ℕ} {x : Record} → Fits image s n → Found image s n key r x → Held image s n key r x
-held-of {image} {s} {n} {key} {r} {x} f o =
-    let inside = region-inside f (o .number) in
-    record {
-      fit = f;
-      found = o;
-      inside = inside;
-      small = place-small f;
-      part = bytes-part image s r (x .at) (x .len) (o .fits);
-      long = simp (length-take, length-drop) (omega (arith, inside, o .fits));
-      size = region-length f (o .number);
-    }
+held-of f o = record { fit = f; found = o; inside = region-inside f (o .number); small = place-small f; size = region-length f (o .number) }
 
 pub held : (image : List ℕ) (s n key r : ℕ) (x : Record) → hitOf image s n key ≡ Hit.Live r x → Held image s n key r x
 unfolding hitOf
@@ -69,24 +57,22 @@ held image s n key r x h = check (firstRefusal image s n key 0) refl h
     check (Check.Refused w) e h = absurd (let z : _≡_ {A = ℕ} 0 1 = cc in omega arith)
     check Check.Fine e h = look (fine image s n key 0 e .0) (lookupIn key Need.Nothing s image (probes key n)) refl h
 
--- Append's room lies in the image, and over a blank place a write stores the record.
+-- Append's place lies in the image.
 pub record Placed (image : List ℕ) (s n len r o : ℕ) : Type 0 where
   pub fit : Fits image s n
   pub number : r < n
   pub inside : r * s + s ≤ length image
   pub small : length image < 2 ^ 32
   pub size : length (regionOf s image r) ≡ s
-  pub room : o + len ≤ s
+  pub enough : o + len ≤ s
 
 pub placed-at : (image : List ℕ) (s n key len r o : ℕ) (blank : Bool) (seen : Seen) → Fits image s n
     → lookupIn key (Need.Room len) s image (probes key n) ≡ Looked.Through seen → seen .room ≡ Room.At r o blank
     → Placed image s n len r o × (blank ≡ isBlank (take len (drop o (regionOf s image r))))
 placed-at image s n key len r o blank seen f h e =
-    let g = through key s image (probes key n) (gathered (Need.Room len) s image (probes key n)) seen h in
-    let w : firstRoom len s image (probes key n) ≡ Room.At r o blank = ap (λ (t : Seen). t .room) g ∙ e in
-    let (m, y) = room-from len s image (probes key n) r o blank w in
+    let (m, y) = room-from len s image (probes key n) r o blank (sym (gathered-first key len s image (probes key n) h) ∙ e) in
     let number = members key n r (f .shape .n-least) .1 m in
     let size = region-length f number in (
-      record { fit = f; number = number; inside = region-inside f number; small = place-small f; size = size; room = rw size at (y .room) },
+      record { fit = f; number = number; inside = region-inside f number; small = place-small f; size = size; enough = rw size at (y .enough) },
       y .blankness,
     )

@@ -1,2 +1,4 @@
 pub mod Refusals
-pub mod Lookup
+pub mod Gather
+pub mod Turns
+pub mod Words

@@ -1,8 +1,15 @@
--- The refusals of the store, by their numbers in document 01.
+-- The refusals of the store, by their numbers in document 01, and those that come before anything is read.
 use Prim.Native.Nat.{ℕ}
+use mathlib.Core.Bool.{Bool, not, cond}
+use mathlib.Core.List.{List, [], _∷_}
+use lib.Dec.{ltb}
+use Rattle.chip.specs.Geometry.{geometry}
+use Rattle.probe.specs.Probe.{allowedKey}
 use Rattle.region.specs.declared.Fault.{Fault}
 use Rattle.region.specs.declared.Fault.the-variants.{UnsupportedVersion, CorruptData}
-use Rattle.lookup.specs.declared.Refusal.{Refusal}
+use Rattle.region.specs.Layout.{edition, largestValue}
+use Rattle.lookup.specs.declared.refusals.Refusal.{Refusal}
+use Rattle.lookup.specs.declared.refusals.Check.{Check}
 
 -- The first column of the table "When the store says no".
 abbrev pub number : Refusal → ℕ
@@ -23,3 +30,30 @@ number Refusal.FlashFailed = 12
 abbrev pub refusalOf : Fault → Refusal
 refusalOf UnsupportedVersion = Refusal.UnsupportedVersion
 refusalOf CorruptData = Refusal.CorruptData
+
+-- "Order: 1, 2, 3": the first that applies to the geometry, the key and the value's length.
+-- 1. "S or N, or in the one-call form the image length, outside the rules". 2. "key 0 or 2^64 - 1". 3. "value over 4,079 bytes".
+abbrev pub refusalUnder : Bool → ℕ → ℕ → Check
+refusalUnder shaped key len =
+    cond (not shaped) (Check.Refused Refusal.BadGeometry)
+    (cond (not (allowedKey key)) (Check.Refused Refusal.BadKey)
+    (cond (ltb (largestValue edition) len) (Check.Refused Refusal.ObjectTooLarge)
+    Check.Fine))
+
+unfoldable pub firstRefusal : List ℕ → ℕ → ℕ → ℕ → ℕ → Check
+firstRefusal image s n key len = refusalUnder (geometry image s n) key len
+
+-- The value that a refusal gives: "BufferTooSmall gives the full value length"; the others give none.
+abbrev pub valueOf : Refusal → List ℕ
+valueOf Refusal.BadGeometry = []
+valueOf Refusal.BadKey = []
+valueOf Refusal.ObjectTooLarge = []
+valueOf Refusal.KeyNotFound = []
+valueOf Refusal.KeyAlreadyExists = []
+valueOf Refusal.FlashFull = []
+valueOf Refusal.UnsupportedVersion = []
+valueOf Refusal.CorruptData = []
+valueOf (Refusal.BufferTooSmall len) = len ∷ []
+valueOf Refusal.InvalidCheckSum = []
+valueOf Refusal.BadCall = []
+valueOf Refusal.FlashFailed = []

@@ -1,6 +1,6 @@
 -- Get's buffer under a refusal that copies nothing.
 -- Assumes nothing.
-use Prim.Native.Nat.{ℕ, _-_, _≤_, _<_}
+use Prim.Native.Nat.{ℕ, _≤_, _<_}
 use native.Mathlib.Omega.{arith}
 use mathlib.Core.Path.{_≡_, refl}
 use mathlib.Core.Bool.{Bool, true, false, cond}
@@ -8,14 +8,14 @@ use mathlib.Core.List.{List}
 use lib.Dec.{ltb}
 use lib.ListN.{length}
 use Rattle.chip.specs.Geometry.{regionOf}
-use Rattle.region.specs.Record.{checkSumFits}
-use Rattle.region.specs.Walk.{bytesIn}
-use Rattle.lookup.specs.declared.Refusal.{Refusal}
+use Rattle.region.specs.Layout.{checkSumFits}
+use Rattle.region.specs.Walk.{bytesIn, valueLength}
+use Rattle.lookup.specs.declared.refusals.Refusal.{Refusal}
 use Rattle.lookup.specs.declared.Hit.{Hit}
-use Rattle.lookup.specs.Lookup.{hitOf}
-use Rattle.store.specs.declared.Answer.the-variants.{Complete, Refused}
-use Rattle.store.specs.Answer.{refusal}
-use Rattle.store.specs.Store.{gotBy, getOf}
+use Rattle.lookup.specs.Turns.{hitOf}
+use Rattle.plans.specs.declared.Answer.the-variants.{Complete, Refused}
+use Rattle.plans.specs.Answers.{refusal}
+use Rattle.store.specs.Read.{gotBy, getOf}
 
 pub refused-buffer : (image : List ℕ) (s n key : ℕ) (buffer : List ℕ) → 1 ≤ refusal (getOf image s n key buffer .answer) → refusal (getOf image s n key buffer .answer) < 9
     → getOf image s n key buffer .buffer ≡ buffer
@@ -30,6 +30,4 @@ refused-buffer image s n key buffer = go (hitOf image s n key)
 
     go : (hit : Hit) → 1 ≤ refusal (gotBy s image buffer hit .answer) → refusal (gotBy s image buffer hit .answer) < 9 → gotBy s image buffer hit .buffer ≡ buffer
     go (Hit.Refused w) l h = refl
-    go (Hit.Live r x) l h =
-        let bytes = bytesIn (regionOf s image r) x in
-        absurd (copies (length bytes - 15) (ltb (length buffer) (length bytes - 15)) (checkSumFits bytes) l h)
+    go (Hit.Live r x) l h = absurd (copies (valueLength x) (ltb (length buffer) (valueLength x)) (checkSumFits (bytesIn (regionOf s image r) x)) l h)

@@ -10,19 +10,20 @@ use lib.Dec.{eqb}
 use lib.ListN.{length}
 use borrow.Author.Tests.{eqb-true, eqb-false}
 use Rattle.chip.specs.Chip.{erased}
-use Rattle.chip.specs.Geometry.{Fits, geometry, regionOf}
+use Rattle.chip.specs.Geometry.{Fits, geometry, regionOf, numbers}
 use Rattle.chip.proofs.Image.{fits-geometry}
 use Rattle.probe.proofs.Theorems.{Distinct, none, one}
 use Rattle.region.specs.declared.Fault.{Fault}
-use Rattle.store.specs.declared.Answer.{Answer}
-use Rattle.store.specs.declared.Answer.the-variants.{Freed}
-use Rattle.store.specs.declared.Verdict.{Verdict}
-use Rattle.store.specs.Store.{Done, verdict, numbers}
+use Rattle.plans.specs.declared.Answer.{Answer}
+use Rattle.plans.specs.declared.Answer.the-variants.{Freed}
+use Rattle.plans.specs.declared.Verdict.{Verdict}
+use Rattle.plans.specs.Sweeps.{verdict}
+use Rattle.store.specs.Write.{Done}
 use Rattle.store.specs.Call.{collect, answerOf, imageAfter}
 use Rattle.pinned.specs.When.{NotBad, FirstBad}
 use Rattle.pinned.specs.Left.{Dead, erasedOn, erasedIn, erasedBy, eraseAll, Collected, erased-one, stood}
 use Rattle.pinned.proofs.Swept.{Judged, judged, dead-not-bad, Ended, ended, Erasable, erased-members, erase-out, erase-in}
-use Rattle.pinned.proofs.Answers.{collect-is}
+use Rattle.pinned.proofs.Calls.{collect-is}
 
 module _ (image : List ℕ) (s n : ℕ) (f : Fits image s n) where
   erased-by : erasedBy image s n ≡ erasedIn s image (numbers 0 n)
@@ -49,9 +50,9 @@ module _ (image : List ℕ) (s n : ℕ) (f : Fits image s n) where
 
   -- A region is collected where neither it nor one before it is bad.
   pub collected-at : (q : ℕ) → q < n → ((p : ℕ) → p ≤ q → NotBad (regionOf s image p)) → Collected s (regionOf s image q) (regionOf s (imageAfter collect image s n) q)
-  collected-at q l c = go (judged (regionOf s image q))
+  collected-at q l c = go (judged q (regionOf s image q))
     where
-      go : {v : Verdict} → Judged (regionOf s image q) v → Collected s (regionOf s image q) (regionOf s (imageAfter collect image s n) q)
+      go : {v : Verdict} → Judged q (regionOf s image q) v → Collected s (regionOf s image q) (regionOf s (imageAfter collect image s n) q)
       go (Judged.stands d b) = stood d (after-out q (λ m. d (is-erasable q .0 m .dead)))
       go (Judged.erase d b) = erased-one d (after-in q l (erased-are q .1 (l, d, λ p m. c p (omega arith))))
       go (Judged.bad {f = g} {o = o} e) = absurd (c q (omega arith) g o e)
@@ -81,12 +82,12 @@ module _ (image : List ℕ) (s : ℕ) where
   distinct-in : (k r : ℕ) → Distinct (erasedIn s image (numbers r k))
   unfolding erasedIn numbers
   distinct-in zero r = none
-  distinct-in (suc k) r = go (verdict (regionOf s image r)) (distinct-in k (r + 1))
+  distinct-in (suc k) r = go (verdict r (regionOf s image r)) (distinct-in k (r + 1))
     where
       go : (v : Verdict) → Distinct (erasedIn s image (numbers (r + 1) k)) → Distinct (erasedOn v r (erasedIn s image (numbers (r + 1) k)))
       go Verdict.Stands d = d
       go Verdict.Erase d = one (λ m. let w = erased-members s image k (r + 1) r .0 m .low in omega arith) d
-      go (Verdict.Bad g o) d = none
+      go (Verdict.Bad g p) d = none
 
 pub erased-once : (image : List ℕ) (s n : ℕ) → Distinct (erasedBy image s n)
 erased-once image s n = go (geometry image s n)

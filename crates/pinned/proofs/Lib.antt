@@ -1,9 +1,11 @@
 pub mod Early
 pub mod Swept
+pub mod Lookups
 pub mod Blank
+pub mod Lines
+pub mod Calls
 pub mod Answers
 pub mod Written
 pub mod Collected
-pub mod Lookups
 pub mod Buffers
 pub mod Theorems

@@ -1,5 +1,5 @@
--- A lookup's ends and the first room, in the words of document 01: one induction over the regions gives the case, one over those passed gives the
--- way back.
+-- A lookup's ends and the first room, in the words of document 01: one induction over the lookup's turns gives the case, one over the regions passed
+-- gives the way back.
 -- Assumes nothing.
 use Prim.Native.Nat.{ℕ, _+_, _*_, _<_}
 use native.Mathlib.Omega.{arith}
@@ -18,96 +18,101 @@ use Rattle.region.specs.declared.Stop.{Stop}
 use Rattle.region.specs.declared.Want.{Want}
 use Rattle.region.specs.declared.Event.{Event}
 use Rattle.region.specs.Walk.{ending, eventIn}
+use Rattle.lookup.specs.declared.Need.{Need}
 use Rattle.lookup.specs.declared.Room.{Room}
 use Rattle.lookup.specs.declared.Seen.{Seen}
 use Rattle.lookup.specs.declared.Looked.{Looked}
-use Rattle.lookup.specs.Lookup.{onEvent, firstDecides, onEnding, firstRoom}
-use Rattle.pinned.specs.Words.{Passed, Decides, HasRoom, FirstRoom}
+use Rattle.lookup.specs.Gather.{unseen, orRoom}
+use Rattle.lookup.specs.Turns.{turn, lookupIn}
+use Rattle.lookup.specs.Words.{roomOn, firstRoom, goesOn, Passed}
+use Rattle.lookup.proofs.Scan.{Looks, looks-so, looks-is}
+use Rattle.pinned.specs.Words.{Decides, HasRoom, FirstRoom}
 
 module _ (image : List ℕ) (s key : ℕ) where
-  -- what the lookup makes of the regions
-  abbrev looked : List ℕ → Seen → Looked
-  looked order seen = firstDecides key s image order (Looked.Through seen)
+  -- A region is passed where the walk for the key comes to the end.
+  pub end-passed : (q : ℕ) {o : ℕ} → eventIn (regionOf s image q) (Want.Key key) ≡ Event.End o → Passed image s key q
+  end-passed q e = ap (λ (t : Event). goesOn (turn unseen Need.Nothing q (regionOf s image q) t)) e
 
-  past-region : (q : ℕ) (rs : List ℕ) (none : Looked) → Passed image s key q → firstDecides key s image (q ∷ rs) none ≡ firstDecides key s image rs none
-  unfolding firstDecides
-  past-region q rs none (o, e) = ap (λ (e : Event). onEvent s q e (firstDecides key s image rs none)) e
-
-  past-all : (before rs : List ℕ) (none : Looked) → ((q : ℕ) → List·Memᴰ q before → Passed image s key q) → firstDecides key s image (before ++ rs) none ≡ firstDecides key s image rs none
-  past-all [] rs none h = refl
-  past-all (q ∷ before) rs none h = past-region q (before ++ rs) none (h q (List·Memᴰ·head refl)) ∙ past-all before rs none (λ p m. h p (List·Memᴰ·tail m))
-
-  decided : {order : List ℕ} {r : ℕ} {e : Event} (none : Looked) (d : Decides image s key order r e)
-      → firstDecides key s image order none ≡ onEvent s r e (firstDecides key s image (d .after) none)
-  unfolding firstDecides
-  decided {r = r} none d =
-      ap (λ (rs : List ℕ). firstDecides key s image rs none) (d .split)
-      ∙ past-all (d .before) (r ∷ d .after) none (d .passed)
-      ∙ ap (λ (e : Event). onEvent s r e (firstDecides key s image (d .after) none)) (d .here)
-
-  data Ends (seen : Seen) (order : List ℕ) : Looked → Type 0 where
-    live : {r : ℕ} {x : Record} → Decides image s key order r (Event.Live x) → Ends seen order (Looked.Live r x)
-    bad : {r o : ℕ} {f : Fault} → Decides image s key order r (Event.Bad f o) → Ends seen order (Looked.Bad f (r * s + o))
-    through : ((q : ℕ) → List·Memᴰ q order → Passed image s key q) → Ends seen order (Looked.Through seen)
-
-  ends : (seen : Seen) (order : List ℕ) → Ends seen order (looked order seen)
-  unfolding firstDecides
-  ends seen [] = through (λ q m. absurd (List·Memᴰ·not-nil m))
-  ends seen (q ∷ rs) = go (eventIn (regionOf s image q) (Want.Key key)) refl (ends seen rs)
+  pub passed-end : (q : ℕ) → Passed image s key q → (o : ℕ) × (eventIn (regionOf s image q) (Want.Key key) ≡ Event.End o)
+  passed-end q h = go (eventIn (regionOf s image q) (Want.Key key)) h
     where
-      first : {e : Event} → eventIn (regionOf s image q) (Want.Key key) ≡ e → Decides image s key (q ∷ rs) q e
-      first e = record { before = []; after = rs; split = refl; passed = λ p m. absurd (List·Memᴰ·not-nil m); here = e }
+      go : (e : Event) → goesOn (turn unseen Need.Nothing q (regionOf s image q) e) ≡ true → (o : ℕ) × (e ≡ Event.End o)
+      go (Event.Live x) h = absurd (let z : _≡_ {A = ℕ} 0 1 = cc in omega arith)
+      go (Event.Bad f o) h = absurd (let z : _≡_ {A = ℕ} 0 1 = cc in omega arith)
+      go (Event.End o) h = (o, refl)
 
-      with-one : Passed image s key q → {ps : List ℕ} → ((p : ℕ) → List·Memᴰ p ps → Passed image s key p) → (p : ℕ) → List·Memᴰ p (q ∷ ps) → Passed image s key p
-      with-one h k p m = ⊎-elim (λ (e : p ≡ q). rw e h) (k p) (List·Memᴰ·cases-cons m)
+  abbrev AllPassed : List ℕ → Type 0
+  AllPassed order = (q : ℕ) → List·Memᴰ q order → Passed image s key q
 
-      later : {r : ℕ} {e : Event} → Passed image s key q → Decides image s key rs r e → Decides image s key (q ∷ rs) r e
-      later h d = record { before = q ∷ d .before; after = d .after; split = ap (λ (l : List ℕ). q ∷ l) (d .split); passed = with-one h (d .passed); here = d .here }
+  -- From the turns to the words.
 
-      onward : {l : Looked} → Passed image s key q → Ends seen rs l → Ends seen (q ∷ rs) l
-      onward h (live d) = live (later h d)
-      onward h (bad d) = bad (later h d)
-      onward h (through k) = through (with-one h k)
+  data Ends (order : List ℕ) : Looked → Type 0 where
+    live : {r : ℕ} {x : Record} → Decides image s key order r (Event.Live x) → Ends order (Looked.Live r x)
+    bad : {r o : ℕ} {f : Fault} → Decides image s key order r (Event.Bad f o) → Ends order (Looked.Bad f (r * length (regionOf s image r) + o))
+    through : {seen : Seen} → AllPassed order → Ends order (Looked.Through seen)
 
-      go : (e : Event) → eventIn (regionOf s image q) (Want.Key key) ≡ e → Ends seen rs (looked rs seen) → Ends seen (q ∷ rs) (onEvent s q e (looked rs seen))
-      go (Event.Live x) e ih = live (first e)
-      go (Event.Bad f o) e ih = bad (first e)
-      go (Event.End o) e ih = onward (o, e) ih
+  first : {q : ℕ} {rs : List ℕ} {e : Event} → eventIn (regionOf s image q) (Want.Key key) ≡ e → Decides image s key (q ∷ rs) q e
+  first {rs = rs} e = record { before = []; after = rs; split = refl; passed = λ p m. absurd (List·Memᴰ·not-nil m); here = e }
 
-  pub live-is : (order : List ℕ) (seen : Seen) (r : ℕ) (x : Record) → (looked order seen ≡ Looked.Live r x) ↔ Decides image s key order r (Event.Live x)
-  live-is order seen r x = (λ h. go (ends seen order) h, λ d. decided (Looked.Through seen) d)
-    where
-      go : {l : Looked} → Ends seen order l → l ≡ Looked.Live r x → Decides image s key order r (Event.Live x)
-      go (live {r = q} {x = y} d) h =
-          let a : r ≡ q = cc in
-          let b : x ≡ y = cc in
-          rw (a, b) d
-      go (bad d) h = absurd (let z : _≡_ {A = ℕ} 0 1 = cc in omega arith)
-      go (through k) h = absurd (let z : _≡_ {A = ℕ} 0 1 = cc in omega arith)
+  with-one : {q : ℕ} {rs : List ℕ} → Passed image s key q → AllPassed rs → AllPassed (q ∷ rs)
+  with-one {q} h k p m = ⊎-elim (λ (e : p ≡ q). rw e h) (k p) (List·Memᴰ·cases-cons m)
 
-  pub bad-is : (order : List ℕ) (seen : Seen) (f : Fault) (p : ℕ)
-      → (looked order seen ≡ Looked.Bad f p) ↔ ((r : ℕ) × (o : ℕ) × (r * s + o ≡ p) × Decides image s key order r (Event.Bad f o))
-  bad-is order seen f p = (λ h. go (ends seen order) h, λ (r, o, e, d). decided (Looked.Through seen) d ∙ ap (Looked.Bad f) e)
-    where
-      go : {l : Looked} → Ends seen order l → l ≡ Looked.Bad f p → (r : ℕ) × (o : ℕ) × (r * s + o ≡ p) × Decides image s key order r (Event.Bad f o)
-      go (live d) h = absurd (let z : _≡_ {A = ℕ} 0 1 = cc in omega arith)
-      go (bad {r = r} {o = o} {f = g} d) h =
-          let a : f ≡ g = cc in
-          let b : r * s + o ≡ p = cc in
-          (r, o, b, rw a d)
-      go (through k) h = absurd (let z : _≡_ {A = ℕ} 0 1 = cc in omega arith)
+  later : {q r : ℕ} {rs : List ℕ} {e : Event} → Passed image s key q → Decides image s key rs r e → Decides image s key (q ∷ rs) r e
+  later {q} h d = record { before = q ∷ d .before; after = d .after; split = ap (λ (l : List ℕ). q ∷ l) (d .split); passed = with-one h (d .passed); here = d .here }
 
-  pub through-is : (order : List ℕ) (seen : Seen) → (looked order seen ≡ Looked.Through seen) ↔ ((q : ℕ) → List·Memᴰ q order → Passed image s key q)
-  unfolding firstDecides
-  through-is order seen = (
-    λ h. go (ends seen order) h,
-    λ k. ap (λ (rs : List ℕ). firstDecides key s image rs (Looked.Through seen)) (sym (append-nil order)) ∙ past-all order [] (Looked.Through seen) k,
-  )
-    where
-      go : {l : Looked} → Ends seen order l → l ≡ Looked.Through seen → (q : ℕ) → List·Memᴰ q order → Passed image s key q
-      go (live d) h = absurd (let z : _≡_ {A = ℕ} 0 1 = cc in omega arith)
-      go (bad d) h = absurd (let z : _≡_ {A = ℕ} 0 1 = cc in omega arith)
-      go (through k) h = k
+  onward : {q : ℕ} {rs : List ℕ} {l : Looked} → Passed image s key q → Ends rs l → Ends (q ∷ rs) l
+  onward h (live d) = live (later h d)
+  onward h (bad d) = bad (later h d)
+  onward h (through k) = through (with-one h k)
+
+  ends : {need : Need} {seen : Seen} {order : List ℕ} {l : Looked} → Looks key need s image seen order l → Ends order l
+  ends Looks.over = through (λ q m. absurd (List·Memᴰ·not-nil m))
+  ends (Looks.live e) = live (first e)
+  ends (Looks.bad e) = bad (first e)
+  ends (Looks.more {r = q} e rest) = onward (end-passed q e) (ends rest)
+
+  -- And back.
+
+  past : (need : Need) (before rs : List ℕ) {l : Looked} → AllPassed before → ((seen : Seen) → Looks key need s image seen rs l) → (seen : Seen) → Looks key need s image seen (before ++ rs) l
+  past need [] rs h looks seen = looks seen
+  past need (q ∷ before) rs h looks seen = let (o, e) = passed-end q (h q (List·Memᴰ·head refl)) in Looks.more e (past need before rs (λ p m. h p (List·Memᴰ·tail m)) looks _)
+
+  decided : (need : Need) {order : List ℕ} {r : ℕ} {e : Event} {l : Looked} (d : Decides image s key order r e)
+      → ((seen : Seen) → Looks key need s image seen (r ∷ d .after) l) → lookupIn key need s image order ≡ l
+  decided need {r = r} d looks = ap (lookupIn key need s image) (d .split) ∙ looks-is key need s image (past need (d .before) (r ∷ d .after) (d .passed) looks unseen)
+
+  all-through : (need : Need) (order : List ℕ) (seen : Seen) → AllPassed order → (got : Seen) × Looks key need s image seen order (Looked.Through got)
+  all-through need [] seen h = (seen, Looks.over)
+  all-through need (q ∷ rs) seen h =
+      let (o, e) = passed-end q (h q (List·Memᴰ·head refl)) in
+      let (got, rest) = all-through need rs _ (λ p m. h p (List·Memᴰ·tail m)) in
+      (got, Looks.more e rest)
+
+  module _ (need : Need) (order : List ℕ) where
+    pub live-is : (r : ℕ) (x : Record) → (lookupIn key need s image order ≡ Looked.Live r x) ↔ Decides image s key order r (Event.Live x)
+    live-is r x = (λ h. go (ends (looks-so key need s image h)), λ d. decided need d (λ seen. Looks.live (d .here)))
+      where
+        go : Ends order (Looked.Live r x) → Decides image s key order r (Event.Live x)
+        go (live d) = d
+
+    pub bad-is : (f : Fault) (p : ℕ)
+        → (lookupIn key need s image order ≡ Looked.Bad f p)
+        ↔ ((r : ℕ) × (o : ℕ) × (r * length (regionOf s image r) + o ≡ p) × Decides image s key order r (Event.Bad f o))
+    bad-is f p = (λ h. go (ends (looks-so key need s image h)) refl, λ (r, o, e, d). decided need d (λ seen. Looks.bad (d .here)) ∙ ap (Looked.Bad f) e)
+      where
+        go : {l : Looked} → Ends order l → l ≡ Looked.Bad f p → (r : ℕ) × (o : ℕ) × (r * length (regionOf s image r) + o ≡ p) × Decides image s key order r (Event.Bad f o)
+        go (live d) h = absurd (let z : _≡_ {A = ℕ} 0 1 = cc in omega arith)
+        go (bad {r = r} {o = o} {f = g} d) h =
+            let a : f ≡ g = cc in
+            let b : r * length (regionOf s image r) + o ≡ p = cc in
+            (r, o, b, rw a d)
+        go (through k) h = absurd (let z : _≡_ {A = ℕ} 0 1 = cc in omega arith)
+
+    pub through-is : ((seen : Seen) × (lookupIn key need s image order ≡ Looked.Through seen)) ↔ AllPassed order
+    through-is = (λ (seen, h). go (ends (looks-so key need s image h)), λ k. let (got, t) = all-through need order unseen k in (got, looks-is key need s image t))
+      where
+        go : {seen : Seen} → Ends order (Looked.Through seen) → AllPassed order
+        go (through k) = k
 
 -- The first room.
 module _ (image : List ℕ) (s len : ℕ) where
@@ -119,11 +124,11 @@ module _ (image : List ℕ) (s len : ℕ) where
   no-room-here q rs h = go (ending (regionOf s image q)) refl
     where
       fits : (p : ℕ) → ending (regionOf s image q) ≡ Stop.End p → (b : Bool) → leb (p + len) (length (regionOf s image q)) ≡ b
-          → cond b (Room.At q p (blankAt q p)) (firstRoom len s image rs) ≡ firstRoom len s image rs
-      fits p e true t = absurd (h p (record { ends = e; room = leb-true _ _ t }))
+          → orRoom (cond b (Room.At q p (blankAt q p)) Room.Nowhere) (firstRoom len s image rs) ≡ firstRoom len s image rs
+      fits p e true t = absurd (h p (record { ends = e; enough = leb-true _ _ t }))
       fits p e false t = refl
 
-      go : (stop : Stop) → ending (regionOf s image q) ≡ stop → onEnding len q (regionOf s image q) stop (firstRoom len s image rs) ≡ firstRoom len s image rs
+      go : (stop : Stop) → ending (regionOf s image q) ≡ stop → orRoom (roomOn len q (regionOf s image q) stop) (firstRoom len s image rs) ≡ firstRoom len s image rs
       go (Stop.End p) e = fits p e (leb (p + len) (length (regionOf s image q))) refl
       go (Stop.Bad f p) e = refl
 
@@ -135,8 +140,8 @@ module _ (image : List ℕ) (s len : ℕ) where
   room-here : {r o : ℕ} (rs : List ℕ) → HasRoom image s len r o → firstRoom len s image (r ∷ rs) ≡ Room.At r o (blankAt r o)
   unfolding firstRoom
   room-here {r} {o} rs h =
-      ap (λ (stop : Stop). onEnding len r (regionOf s image r) stop (firstRoom len s image rs)) (h .ends)
-      ∙ rw (le-leb (o + len) (length (regionOf s image r)) (h .room))
+      ap (λ (stop : Stop). orRoom (roomOn len r (regionOf s image r) stop) (firstRoom len s image rs)) (h .ends)
+      ∙ rw (le-leb (o + len) (length (regionOf s image r)) (h .enough))
 
   first-is : {order : List ℕ} {r o : ℕ} → FirstRoom image s len order r o → firstRoom len s image order ≡ Room.At r o (blankAt r o)
   first-is {r = r} f = ap (firstRoom len s image) (f .split) ∙ no-room-in (f .before) (r ∷ f .after) (f .passed) ∙ room-here (f .after) (f .here)
@@ -152,27 +157,27 @@ module _ (image : List ℕ) (s len : ℕ) where
     where
       with-one : {ps : List ℕ} → ((p : ℕ) → HasRoom image s len q p → ⊥) → ((r p : ℕ) → List·Memᴰ r ps → HasRoom image s len r p → ⊥)
           → (r p : ℕ) → List·Memᴰ r (q ∷ ps) → HasRoom image s len r p → ⊥
-      with-one h k r p m room = ⊎-elim (λ (e : r ≡ q). h p (rw (sym e) room)) (λ t. k r p t room) (List·Memᴰ·cases-cons m)
+      with-one h k r p m has = ⊎-elim (λ (e : r ≡ q). h p (rw (sym e) has)) (λ t. k r p t has) (List·Memᴰ·cases-cons m)
 
       onward : {room : Room} → ((p : ℕ) → HasRoom image s len q p → ⊥) → Rooms rs room → Rooms (q ∷ rs) room
       onward h (at f) = at (record { before = q ∷ f .before; after = f .after; split = ap (λ (l : List ℕ). q ∷ l) (f .split); passed = with-one h (f .passed); here = f .here })
       onward h (nowhere k) = nowhere (with-one h k)
 
       fits : (p : ℕ) → ending (regionOf s image q) ≡ Stop.End p → (b : Bool) → leb (p + len) (length (regionOf s image q)) ≡ b → Rooms rs (firstRoom len s image rs)
-          → Rooms (q ∷ rs) (cond b (Room.At q p (blankAt q p)) (firstRoom len s image rs))
+          → Rooms (q ∷ rs) (orRoom (cond b (Room.At q p (blankAt q p)) Room.Nowhere) (firstRoom len s image rs))
       fits p e true t ih =
-          at (record { before = []; after = rs; split = refl; passed = λ r o m h. List·Memᴰ·not-nil m; here = record { ends = e; room = leb-true _ _ t } })
+          at (record { before = []; after = rs; split = refl; passed = λ r o m h. List·Memᴰ·not-nil m; here = record { ends = e; enough = leb-true _ _ t } })
       fits p e false t ih =
           onward
           (λ o h.
           let same : o ≡ p = let a = h .ends in cc in
           let more : length (regionOf s image q) < p + len = leb-false _ _ t in
-          let room = h .room in
+          let l = h .enough in
           omega arith)
           ih
 
       go : (stop : Stop) → ending (regionOf s image q) ≡ stop → Rooms rs (firstRoom len s image rs)
-          → Rooms (q ∷ rs) (onEnding len q (regionOf s image q) stop (firstRoom len s image rs))
+          → Rooms (q ∷ rs) (orRoom (roomOn len q (regionOf s image q) stop) (firstRoom len s image rs))
       go (Stop.End p) e ih = fits p e (leb (p + len) (length (regionOf s image q))) refl ih
       go (Stop.Bad f p) e ih = onward (λ o h. let a = h .ends in let z : _≡_ {A = ℕ} 0 1 = cc in omega arith) ih
 

@@ -13,7 +13,7 @@ use lib.Dec.{eqb}
 use lib.ListN.{length}
 use borrow.Author.Tests.{eqb-true, eqb-false}
 use Rattle.chip.specs.Chip.{erased}
-use Rattle.chip.specs.Geometry.{Fits, regionOf, eraseRegion}
+use Rattle.chip.specs.Geometry.{Fits, regionOf, eraseRegion, numbers}
 use Rattle.chip.proofs.Lists.{Every}
 use Rattle.chip.proofs.Image.{region-erased-other, region-erased-same, fits-erased}
 use Rattle.region.specs.declared.Record.{Record}
@@ -24,36 +24,39 @@ use Rattle.region.specs.declared.Event.{Event}
 use Rattle.region.specs.Walk.{records, eventIn}
 use Rattle.region.proofs.Theorems.{live-decides, stop-decides}
 use Rattle.lookup.specs.Refusals.{refusalOf}
-use Rattle.store.specs.declared.Answer.{Answer}
-use Rattle.store.specs.declared.Answer.the-variants.{Freed, Refused}
-use Rattle.store.specs.declared.Verdict.{Verdict}
-use Rattle.store.specs.Store.{Done, refused, noRecords, verdict, verdictOn, numbers, collectIn}
+use Rattle.plans.specs.declared.Answer.{Answer}
+use Rattle.plans.specs.declared.Answer.the-variants.{Freed, Refused}
+use Rattle.plans.specs.declared.Verdict.{Verdict}
+use Rattle.plans.specs.Sweeps.{noRecords, verdict, verdictOn}
+use Rattle.store.specs.Write.{Done, refused}
+use Rattle.store.specs.Collect.{collectIn}
 use Rattle.pinned.specs.When.{NotBad, FirstBad}
 use Rattle.pinned.specs.Left.{Dead, erasedOn, erasedIn, eraseAll}
 
 -- What a verdict says.
 
-pub data Judged (region : List ℕ) : Verdict → Type 0 where
-  stands : (Dead region → ⊥) → NotBad region → Judged region Verdict.Stands
-  erase : Dead region → NotBad region → Judged region Verdict.Erase
-  bad : {f : Fault} {o : ℕ} → eventIn region Want.Any ≡ Event.Bad f o → Judged region (Verdict.Bad f o)
+pub data Judged (r : ℕ) (region : List ℕ) : Verdict → Type 0 where
+  stands : (Dead region → ⊥) → NotBad region → Judged r region Verdict.Stands
+  erase : Dead region → NotBad region → Judged r region Verdict.Erase
+  bad : {f : Fault} {o : ℕ} → eventIn region Want.Any ≡ Event.Bad f o → Judged r region (Verdict.Bad f (r * length region + o))
 
-every-member : {A : Type 0} {P : A → Type 0} {xs : List A} → Every P xs → (x : A) → List·Memᴰ x xs → P x
-every-member {P = P} (Every.also p k) x (List·Memᴰ·head e) = rw e p
-every-member (Every.also p k) x (List·Memᴰ·tail m) = every-member k x m
+-- what holds of every element holds of a member
+pub every-member : {A : Type 0} {P : A → Type 0} {xs : List A} {x : A} → Every P xs → List·Memᴰ x xs → P x
+every-member (Every.also p k) (List·Memᴰ·head e) = rw e p
+every-member (Every.also p k) (List·Memᴰ·tail m) = every-member k m
 
-pub judged : (region : List ℕ) → Judged region (verdict region)
-judged region = go (eventIn region Want.Any) refl
+pub judged : (r : ℕ) (region : List ℕ) → Judged r region (verdict r region)
+judged r region = go (eventIn region Want.Any) refl
   where
-    ended : (o : ℕ) → eventIn region Want.Any ≡ Event.End o → (xs : List Record) → records region ≡ xs → Judged region (cond (noRecords xs) Verdict.Stands Verdict.Erase)
+    ended : (o : ℕ) → eventIn region Want.Any ≡ Event.End o → (xs : List Record) → records region ≡ xs → Judged r region (cond (noRecords xs) Verdict.Stands Verdict.Erase)
     ended o e [] k = stands (λ d. d .some k) (λ f p h. let z : _≡_ {A = ℕ} 0 1 = cc in omega arith)
     ended o e (x ∷ xs) k =
         let (n, stop) = stop-decides region Want.Any (Stop.End o) e in
         erase
-        (record { some = λ h. let z : _≡_ {A = ℕ} 0 1 = cc in omega arith; none-live = every-member n; place = o; no-bad = stop })
+        (record { some = λ h. let z : _≡_ {A = ℕ} 0 1 = cc in omega arith; none-live = λ x m. every-member n m; place = o; no-bad = stop })
         (λ f p h. let z : _≡_ {A = ℕ} 0 1 = cc in omega arith)
 
-    go : (e : Event) → eventIn region Want.Any ≡ e → Judged region (verdictOn region e)
+    go : (e : Event) → eventIn region Want.Any ≡ e → Judged r region (verdictOn r region e)
     go (Event.Live x) e =
         let f = live-decides region Want.Any x e in
         let m : List·Memᴰ x (records region) = rw (f .split) (Memᴰ·append-right (f .before) (List·Memᴰ·head refl)) in
@@ -74,11 +77,11 @@ dead-not-bad {region} d f o h =
 abbrev endOn : Verdict → Answer → Answer
 endOn Verdict.Stands rest = rest
 endOn Verdict.Erase rest = rest
-endOn (Verdict.Bad f o) rest = Refused (refusalOf f)
+endOn (Verdict.Bad f p) rest = Refused (refusalOf f)
 
 unfoldable pub endedBy : ℕ → List ℕ → ℕ → List ℕ → Answer
 endedBy s image total [] = Freed total
-endedBy s image total (r ∷ rs) = endOn (verdict (regionOf s image r)) (endedBy s image total rs)
+endedBy s image total (r ∷ rs) = endOn (verdict r (regionOf s image r)) (endedBy s image total rs)
 
 -- The image so far is as at first from region r on: what collect does from there is what the image at first says.
 module _ (s : ℕ) (image : List ℕ) where
@@ -98,13 +101,13 @@ module _ (s : ℕ) (image : List ℕ) where
   pub collect-law : (k r : ℕ) → Law k r
   unfolding numbers collectIn erasedIn eraseAll endedBy
   collect-law zero r image′ freed same = rw (mul-zero s, add-zero freed)
-  collect-law (suc k) r image′ freed same = ap (step (numbers (r + 1) k)) (ap verdict (same r (omega arith))) ∙ go (collect-law k (r + 1)) (verdict (regionOf s image r))
+  collect-law (suc k) r image′ freed same = ap (step (numbers (r + 1) k)) (ap (verdict r) (same r (omega arith))) ∙ go (collect-law k (r + 1)) (verdict r (regionOf s image r))
     where
       step : List ℕ → Verdict → Done
       step rs v = elim v [
         | Verdict.Stands ↦ collectIn s image′ freed rs
         | Verdict.Erase ↦ collectIn s (eraseRegion s r image′) (freed + s) rs
-        | Verdict.Bad f o ↦ refused (refusalOf f) image′
+        | Verdict.Bad f p ↦ refused (refusalOf f) image′
       ]
 
       later : Same image′ (r + 1)
@@ -121,7 +124,7 @@ module _ (s : ℕ) (image : List ℕ) where
           let m : freed + s + s * length (gone (r + 1) k) ≡ freed + s * suc (length (gone (r + 1) k)) = rw (mul-suc s (length (gone (r + 1) k))) (omega arith) in
           ih (eraseRegion s r image′) (freed + s) (λ q l. region-erased-other s r image′ q (λ h. omega arith) ∙ later q l)
           ∙ ap (λ (total : ℕ). record { answer = endedBy s image total (numbers (r + 1) k); image = eraseAll s (gone (r + 1) k) (eraseRegion s r image′) }) m
-      go ih (Verdict.Bad f o) = refl
+      go ih (Verdict.Bad f p) = refl
 
   -- How it ends, over the k regions from r on: none of them is bad, or one is and none before it.
   pub record BadFrom (r k : ℕ) (fault : Fault) : Type 0 where
@@ -150,7 +153,7 @@ module _ (s : ℕ) (image : List ℕ) where
   pub ended : (total k r : ℕ) → Ended total r k (endedBy s image total (numbers r k))
   unfolding numbers endedBy
   ended total zero r = all (λ q l h. absurd (omega arith))
-  ended total (suc k) r = go (ended total k (r + 1)) (verdict (regionOf s image r)) (judged (regionOf s image r))
+  ended total (suc k) r = go (ended total k (r + 1)) (judged r (regionOf s image r))
     where
       onward : {a : Answer} → NotBad (regionOf s image r) → Ended total (r + 1) k a → Ended total r (suc k) a
       onward b (all h) = all (λ q l u. none-from b q (λ m. h q m (omega arith)) l)
@@ -165,11 +168,11 @@ module _ (s : ℕ) (image : List ℕ) where
             first = λ q l u. none-from b q (λ m. w .first q m u) l;
           })
 
-      go : Ended total (r + 1) k (endedBy s image total (numbers (r + 1) k)) → (v : Verdict) → Judged (regionOf s image r) v
+      go : Ended total (r + 1) k (endedBy s image total (numbers (r + 1) k)) → {v : Verdict} → Judged r (regionOf s image r) v
           → Ended total r (suc k) (endOn v (endedBy s image total (numbers (r + 1) k)))
-      go ih Verdict.Stands (stands d b) = onward b ih
-      go ih Verdict.Erase (erase d b) = onward b ih
-      go ih (Verdict.Bad f o) (bad e) = ends-bad (record { region = r; place = o; low = omega arith; high = omega arith; bad = e; first = λ q l u. absurd (omega arith) })
+      go ih (stands d b) = onward b ih
+      go ih (erase d b) = onward b ih
+      go ih (bad {o = o} e) = ends-bad (record { region = r; place = o; low = omega arith; high = omega arith; bad = e; first = λ q l u. absurd (omega arith) })
 
   -- Over all regions: the first bad one is where it ends.
   pub first-bad : {n : ℕ} {f : Fault} (total : ℕ) → FirstBad image s n f → endedBy s image total (numbers 0 n) ≡ Refused (refusalOf f)
@@ -201,7 +204,7 @@ module _ (s : ℕ) (image : List ℕ) where
   pub erased-members : (k r q : ℕ) → List·Memᴰ q (gone r k) ↔ Erasable r k q
   unfolding numbers erasedIn
   erased-members zero r q = (λ m. absurd (List·Memᴰ·not-nil m), λ w. let l = w .low in let h = w .high in absurd (omega arith))
-  erased-members (suc k) r q = go (erased-members k (r + 1) q) (verdict (regionOf s image r)) (judged (regionOf s image r))
+  erased-members (suc k) r q = go (erased-members k (r + 1) q) (judged r (regionOf s image r))
     where
       widen : NotBad (regionOf s image r) → Erasable (r + 1) k q → Erasable r (suc k) q
       widen b w = record { low = omega arith; high = omega arith; dead = w .dead; clear = λ p l u. none-from b p (λ m. w .clear p m u) l }
@@ -209,20 +212,20 @@ module _ (s : ℕ) (image : List ℕ) where
       narrow : Erasable r (suc k) q → r + 1 ≤ q → Erasable (r + 1) k q
       narrow w l = record { low = l; high = omega arith; dead = w .dead; clear = λ p m u. w .clear p (omega arith) u }
 
-      go : List·Memᴰ q (gone (r + 1) k) ↔ Erasable (r + 1) k q → (v : Verdict) → Judged (regionOf s image r) v
+      go : List·Memᴰ q (gone (r + 1) k) ↔ Erasable (r + 1) k q → {v : Verdict} → Judged r (regionOf s image r) v
           → List·Memᴰ q (erasedOn v r (gone (r + 1) k)) ↔ Erasable r (suc k) q
-      go ih Verdict.Stands (stands d b) = (
+      go ih (stands d b) = (
         λ m. widen b (ih .0 m),
         λ w. ⊎-elim (λ (e : q ≡ r). absurd (d (rw (sym e) (w .dead)))) (λ l. ih .1 (narrow w l)) (here-or-later r q (w .low)),
       )
-      go ih Verdict.Erase (erase d b) = (
+      go ih (erase d b) = (
         λ m. ⊎-elim
             (λ (e : q ≡ r). record { low = omega arith; high = omega arith; dead = rw e d; clear = λ p l u. absurd (omega arith) })
             (λ t. widen b (ih .0 t))
             (List·Memᴰ·cases-cons m),
         λ w. ⊎-elim (λ e. List·Memᴰ·head e) (λ l. List·Memᴰ·tail (ih .1 (narrow w l))) (here-or-later r q (w .low)),
       )
-      go ih (Verdict.Bad f o) (bad e) = (
+      go ih (bad {f = f} {o = o} e) = (
         λ m. absurd (List·Memᴰ·not-nil m),
         λ w. ⊎-elim (λ (h : q ≡ r). absurd (dead-not-bad (w .dead) f o (rw h e))) (λ l. absurd (w .clear r (omega arith) (omega arith) f o e)) (here-or-later r q (w .low)),
       )

@@ -1,40 +1,50 @@
 -- What every call of the store answers and leaves, sentence by sentence of document 01. The arguments are in the other files.
 -- Assumes nothing.
-use Prim.Native.Nat.{ℕ, _+_, _-_, _*_, _≤_, _<_}
+use Prim.Native.Nat.{ℕ, _+_, _*_, _≤_, _<_}
 use native.Mathlib.Omega.{arith}
 use mathlib.Core.Path.{_≡_, refl, sym, _∙_, ap, subst}
 use mathlib.Core.Bool.{Bool, true, false}
-use mathlib.Core.List.{List, [], _++_, List·Memᴰ}
+use mathlib.Core.List.{List, [], _++_, List·Memᴰ, List·Memᴰ·head, Memᴰ·append-right}
 use mathlib.Core.Logic.{_↔_, ⊎-elim}
 use lib.ListN.{length, take, drop}
 use borrow.Author.Tests.{lt-ltb, le-ltb}
 use Rattle.chip.specs.Chip.{Bytes, written, erased, isBlank}
 use Rattle.chip.specs.Geometry.{Fits, regionOf}
+use Rattle.chip.proofs.Image.{region-length}
 use Rattle.probe.specs.Probe.{home, probes}
 use Rattle.probe.proofs.Theorems.{members, Distinct}
 use Rattle.region.specs.declared.Record.{Record}
 use Rattle.region.specs.declared.Fault.{Fault}
+use Rattle.region.specs.declared.Removal.{Removal}
 use Rattle.region.specs.declared.Event.{Event}
-use Rattle.region.specs.Record.{recordBytes, checkSumFits}
-use Rattle.region.specs.Walk.{bytesIn, valueIn}
-use Rattle.lookup.specs.declared.Refusal.{Refusal}
+use Rattle.region.specs.declared.Want.{Want}
+use Rattle.region.specs.Layout.{recordBytes, checkSumFits}
+use Rattle.region.specs.Walk.{eventIn, bytesIn, valueLength, valueIn}
+use Rattle.lookup.specs.declared.refusals.Refusal.{Refusal}
 use Rattle.lookup.specs.declared.Need.{Need}
 use Rattle.lookup.specs.declared.Room.{Room}
 use Rattle.lookup.specs.declared.Looked.{Looked}
+use Rattle.lookup.specs.declared.Seen.{Seen}
 use Rattle.lookup.specs.Refusals.{refusalOf}
-use Rattle.lookup.specs.Lookup.{firstRoom, gathered, lookupIn}
-use Rattle.store.specs.declared.Answer.{Answer}
-use Rattle.store.specs.declared.Answer.the-variants.{Complete, Written, Freed, Refused}
-use Rattle.store.specs.declared.Removal.{Removal}
-use Rattle.store.specs.Answer.{refusal}
-use Rattle.store.specs.Store.{Done, getOf, appendOf, removeOf, collectOf, initialiseOf}
+use Rattle.lookup.specs.Turns.{lookupIn}
+use Rattle.lookup.specs.Words.{firstRoom, Passed}
+use Rattle.lookup.proofs.Scan.{gathered-first}
+use Rattle.plans.specs.declared.Answer.{Answer}
+use Rattle.plans.specs.declared.Answer.the-variants.{Complete, Written, Freed, Refused}
+use Rattle.plans.specs.Answers.{refusal}
+use Rattle.plans.specs.Planning.{placePlan, appendPlan}
+use Rattle.store.specs.Write.{Done, appendOf, removeOf, initialiseOf}
+use Rattle.store.specs.Read.{getOf}
+use Rattle.store.specs.Collect.{collectOf}
 use Rattle.store.specs.Call.{Call, get, append, remove, collect, initialise, outcome, answerOf, imageAfter}
 use Rattle.pinned.specs.When.{Reads, NotBad, FirstBad, When, Succeeds}
 use Rattle.pinned.specs.Left.{Dead, erasedBy, Collected, leftBy, Appended, Removed}
-use Rattle.pinned.specs.Words.{Passed, Decides, HasRoom, FirstRoom}
-use Rattle.pinned.proofs.Answers.{line-some, line-reads, initialise-line, get-line, refused-when, answered, reason-number, reads-if, get-fine, got-live, collect-is, initialise-left, initialise-anew, succeeds}
+use Rattle.pinned.specs.Words.{Decides, HasRoom, FirstRoom}
+use Rattle.pinned.proofs.Lines.{line-some, line-reads, initialise-line, get-line}
+use Rattle.pinned.proofs.Calls.{got-live, collect-is, initialise-left, initialise-anew}
+use Rattle.pinned.proofs.Answers.{refused-when, answered, reason-number, reads-if, get-fine, succeeds}
 use Rattle.pinned.proofs.Swept.{first-bad}
-use Rattle.pinned.proofs.Lookups.{live-is, bad-is, through-is, room-at, room-nowhere}
+use Rattle.pinned.proofs.Lookups.{end-passed, passed-end, live-is, bad-is, through-is, room-at, room-nowhere}
 use Rattle.pinned.proofs.Buffers.{refused-buffer}
 use Rattle.pinned.proofs.Written.{append-wrote, remove-wrote}
 use Rattle.pinned.proofs.Collected.{erased-are, collected-at, stands-from, freed-all, erased-once}
@@ -66,21 +76,31 @@ get-refuses key buffer image s n = ⊎-elim (λ z. (λ e. omega arith, λ e. ome
 
 -- 4: "no region decides".
 pub no-region-decides : (key : ℕ) (need : Need) (image : List ℕ) (s n : ℕ) → 0 < n
-    → (lookupIn key need s image (probes key n) ≡ Looked.Through (gathered need s image (probes key n))) ↔ ((r : ℕ) → r < n → Passed image s key r)
+    → ((seen : Seen) × (lookupIn key need s image (probes key n) ≡ Looked.Through seen)) ↔ ((r : ℕ) → r < n → Passed image s key r)
 no-region-decides key need image s n p =
-    let t = through-is image s key (probes key n) (gathered need s image (probes key n)) in
+    let t = through-is image s key need (probes key n) in
     (λ h r l. t .0 h r (members key n r p .0 l), λ k. t .1 (λ r m. k r (members key n r p .1 m)))
+
+-- None decides where the walk for the key comes to the end of each: there is no live record of the key in it, and no bad place.
+pub passed-is : (key : ℕ) (image : List ℕ) (s q : ℕ) → Passed image s key q ↔ ((o : ℕ) × (eventIn (regionOf s image q) (Want.Key key) ≡ Event.End o))
+passed-is key image s q = (passed-end image s key q, λ h. let (o, e) = h in end-passed image s key q e)
 
 -- "Regions in probe order; the first live record of the key [..] answers", and 5: "append meets its key live".
 pub meets-live : (key : ℕ) (need : Need) (image : List ℕ) (s n r : ℕ) (x : Record)
     → (lookupIn key need s image (probes key n) ≡ Looked.Live r x) ↔ Decides image s key (probes key n) r (Event.Live x)
-meets-live key need image s n r x = live-is image s key (probes key n) (gathered need s image (probes key n)) r x
+meets-live key need image s n r x = live-is image s key need (probes key n) r x
 
 -- "the first [..] bad place answers": at this place of the image, in a region before which none decides.
 pub meets-bad : (key : ℕ) (need : Need) (image : List ℕ) (s n : ℕ) (f : Fault) (place : ℕ)
     → (lookupIn key need s image (probes key n) ≡ Looked.Bad f place)
-    ↔ ((r : ℕ) × (o : ℕ) × (r * s + o ≡ place) × Decides image s key (probes key n) r (Event.Bad f o))
-meets-bad key need image s n f place = bad-is image s key (probes key n) (gathered need s image (probes key n)) f place
+    ↔ ((r : ℕ) × (o : ℕ) × (r * length (regionOf s image r) + o ≡ place) × Decides image s key (probes key n) r (Event.Bad f o))
+meets-bad key need image s n f place = bad-is image s key need (probes key n) f place
+
+-- Where the image fits, that region has S bytes: the place is r * S + o.
+pub deciding-region : {image : List ℕ} {s n key r : ℕ} {event : Event} → Fits image s n → Decides image s key (probes key n) r event → length (regionOf s image r) ≡ s
+deciding-region {n = n} {key = key} {r = r} f d =
+    let m : List·Memᴰ r (probes key n) = rw (d .split) (Memᴰ·append-right (d .before) (List·Memᴰ·head refl)) in
+    region-length f (members key n r (f .shape .n-least) .1 m)
 
 -- 6: "no region has room".
 pub no-room : (key len : ℕ) (image : List ℕ) (s n : ℕ) → 0 < n
@@ -94,6 +114,11 @@ pub first-room : (key len : ℕ) (image : List ℕ) (s n r o : ℕ) (blank : Boo
     → (firstRoom len s image (probes key n) ≡ Room.At r o blank)
     ↔ (FirstRoom image s len (probes key n) r o × (blank ≡ isBlank (take len (drop o (regionOf s image r)))))
 first-room key len image s n r o blank = room-at image s len (probes key n) r o blank
+
+-- That room is the one that append writes to, where no region decided.
+pub append-takes-first : (key len : ℕ) (image : List ℕ) (s n : ℕ) {seen : Seen} → lookupIn key (Need.Room len) s image (probes key n) ≡ Looked.Through seen
+    → appendPlan (Looked.Through seen) ≡ placePlan (firstRoom len s image (probes key n))
+append-takes-first key len image s n h = ap placePlan (gathered-first key len s image (probes key n) h)
 
 -- What a refusal leaves.
 
@@ -128,26 +153,26 @@ pub get-answers : (key : ℕ) (buffer image : List ℕ) (s n : ℕ) → refusal 
     × ((r : ℕ)
     × (x : Record)
     × (lookupIn key Need.Nothing s image (probes key n) ≡ Looked.Live r x)
-    × (x .len - 15 ≤ length buffer)
+    × (valueLength x ≤ length buffer)
     × (checkSumFits (bytesIn (regionOf s image r) x) ≡ true))
 get-answers key buffer image s n h = get-fine image s n key buffer h
 
 -- Get of a live record x of region r, of which the value's bytes are `valueIn`. "Value length is record length less 15."
 module _ (key : ℕ) (buffer image : List ℕ) (s n r : ℕ) (x : Record) (reads : Reads image s n (get key buffer)) (live : lookupIn key Need.Nothing s image (probes key n) ≡ Looked.Live r x) where
   -- "A buffer that is too short is filled with the value's first bytes and BufferTooSmall gives the full value length, checksum not looked at."
-  pub get-short : length buffer < x .len - 15
-      → getOf image s n key buffer ≡ record { answer = Refused (Refusal.BufferTooSmall (x .len - 15)); buffer = take (length buffer) (valueIn (regionOf s image r) x) }
-  get-short l = got-live image s n buffer reads live ∙ rw (lt-ltb (length buffer) (x .len - 15) l)
+  pub get-short : length buffer < valueLength x
+      → getOf image s n key buffer ≡ record { answer = Refused (Refusal.BufferTooSmall (valueLength x)); buffer = take (length buffer) (valueIn (regionOf s image r) x) }
+  get-short l = got-live image s n buffer reads live ∙ rw (lt-ltb (length buffer) (valueLength x) l)
 
   -- "Else the value is copied to the buffer's front, bytes after it stay, and then the checksum is compared: Complete with the length,
-  pub get-complete : x .len - 15 ≤ length buffer → checkSumFits (bytesIn (regionOf s image r) x) ≡ true
-      → getOf image s n key buffer ≡ record { answer = Complete (x .len - 15); buffer = valueIn (regionOf s image r) x ++ drop (x .len - 15) buffer }
-  get-complete l e = got-live image s n buffer reads live ∙ rw (le-ltb (length buffer) (x .len - 15) l, e)
+  pub get-complete : valueLength x ≤ length buffer → checkSumFits (bytesIn (regionOf s image r) x) ≡ true
+      → getOf image s n key buffer ≡ record { answer = Complete (valueLength x); buffer = valueIn (regionOf s image r) x ++ drop (valueLength x) buffer }
+  get-complete l e = got-live image s n buffer reads live ∙ rw (le-ltb (length buffer) (valueLength x) l, e)
 
   -- or InvalidCheckSum with the copy left there."
-  pub get-wrong-sum : x .len - 15 ≤ length buffer → checkSumFits (bytesIn (regionOf s image r) x) ≡ false
-      → getOf image s n key buffer ≡ record { answer = Refused Refusal.InvalidCheckSum; buffer = valueIn (regionOf s image r) x ++ drop (x .len - 15) buffer }
-  get-wrong-sum l e = got-live image s n buffer reads live ∙ rw (le-ltb (length buffer) (x .len - 15) l, e)
+  pub get-wrong-sum : valueLength x ≤ length buffer → checkSumFits (bytesIn (regionOf s image r) x) ≡ false
+      → getOf image s n key buffer ≡ record { answer = Refused Refusal.InvalidCheckSum; buffer = valueIn (regionOf s image r) x ++ drop (valueLength x) buffer }
+  get-wrong-sum l e = got-live image s n buffer reads live ∙ rw (le-ltb (length buffer) (valueLength x) l, e)
 
 -- Written.
 
@@ -158,9 +183,9 @@ append-written key value image s n v h = append-wrote image s n key value v h
 
 -- "Invalidate. Found as in get; one write of byte 1 with the top bit cleared. Written." "Zeroise. Found as in get; one write over the whole record: header
 -- with the top flag cleared, value and checksum 0. Written."
-pub remove-written : (how : Removal) (key : ℕ) (image : List ℕ) (s n : ℕ) → answerOf (remove how key) image s n ≡ Written
+pub remove-written : (how : Removal) (key : ℕ) (image : List ℕ) (s n : ℕ) → Bytes image → answerOf (remove how key) image s n ≡ Written
     → Removed how image s n key (imageAfter (remove how key) image s n)
-remove-written how key image s n h = remove-wrote how image s n key h
+remove-written how key image s n v h = remove-wrote how image s n key v h
 
 -- Collect.
 

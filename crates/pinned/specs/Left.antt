@@ -3,21 +3,22 @@ use Prim.Native.Nat.{ℕ, _+_, _*_}
 use mathlib.Core.Path.{_≡_}
 use mathlib.Core.Bool.{true, false, cond}
 use mathlib.Core.List.{List, [], _∷_, _++_, List·Memᴰ}
-use lib.ListN.{take, drop}
+use lib.ListN.{length, take, drop}
 use Rattle.chip.specs.Chip.{written, erased, isBlank}
-use Rattle.chip.specs.Geometry.{geometry, regionOf, eraseRegion}
+use Rattle.chip.specs.Geometry.{geometry, regionOf, eraseRegion, numbers}
 use Rattle.probe.specs.Probe.{probes}
 use Rattle.region.specs.declared.Record.{Record}
 use Rattle.region.specs.declared.Stop.{Stop}
-use Rattle.region.specs.Record.{recordLength, recordBytes}
+use Rattle.region.specs.declared.Removal.{Removal}
+use Rattle.region.specs.Layout.{recordLength, recordBytes, killPlace, killBytes}
 use Rattle.region.specs.Walk.{live, walkFrom, records, ending, dead}
 use Rattle.lookup.specs.declared.Need.{Need}
 use Rattle.lookup.specs.declared.Room.{Room}
 use Rattle.lookup.specs.declared.Looked.{Looked}
-use Rattle.lookup.specs.Lookup.{firstRoom, lookupIn}
-use Rattle.store.specs.declared.Removal.{Removal}
-use Rattle.store.specs.declared.Verdict.{Verdict}
-use Rattle.store.specs.Store.{removalPlace, removalBytes, verdict, numbers}
+use Rattle.lookup.specs.Words.{firstRoom}
+use Rattle.lookup.specs.Turns.{lookupIn}
+use Rattle.plans.specs.declared.Verdict.{Verdict}
+use Rattle.plans.specs.Sweeps.{verdict}
 use Rattle.store.specs.Call.{Call, get, append, remove, collect, initialise}
 
 -- What collect erases.
@@ -33,12 +34,12 @@ pub record Dead (region : List ℕ) : Type 0 where
 abbrev pub erasedOn : Verdict → ℕ → List ℕ → List ℕ
 erasedOn Verdict.Stands r rest = rest
 erasedOn Verdict.Erase r rest = r ∷ rest
-erasedOn (Verdict.Bad f o) r rest = []
+erasedOn (Verdict.Bad f p) r rest = []
 
 -- The regions of a list that collect erases, in its order, by the image as it is at first: those that are dead, up to the first bad place.
 unfoldable pub erasedIn : ℕ → List ℕ → List ℕ → List ℕ
 erasedIn s image [] = []
-erasedIn s image (r ∷ rs) = erasedOn (verdict (regionOf s image r)) r (erasedIn s image rs)
+erasedIn s image (r ∷ rs) = erasedOn (verdict r (regionOf s image r)) r (erasedIn s image rs)
 
 abbrev pub erasedBy : List ℕ → ℕ → ℕ → List ℕ
 erasedBy image s n = cond (geometry image s n) (erasedIn s image (numbers 0 n)) []
@@ -68,10 +69,10 @@ leftBy (initialise key) image s n = image
 pub record Appended (image : List ℕ) (s n key : ℕ) (value image′ : List ℕ) : Type 0 where
   pub region : ℕ
   pub place : ℕ
-  pub first : firstRoom (recordLength value) s image (probes key n) ≡ Room.At region place true
+  pub first : firstRoom (recordLength (length value)) s image (probes key n) ≡ Room.At region place true
   pub one-write : image′ ≡ written image (region * s + place) (recordBytes key value)
-  pub was-blank : isBlank (take (recordLength value) (drop place (regionOf s image region))) ≡ true
-  pub stands-there : take (recordLength value) (drop place (regionOf s image′ region)) ≡ recordBytes key value
+  pub was-blank : isBlank (take (recordLength (length value)) (drop place (regionOf s image region))) ≡ true
+  pub stands-there : take (recordLength (length value)) (drop place (regionOf s image′ region)) ≡ recordBytes key value
   pub others : (q : ℕ) → (q ≡ region → ⊥) → regionOf s image′ q ≡ regionOf s image q
   pub changed : image′ ≡ image → ⊥
 
@@ -81,7 +82,7 @@ pub record Removed (how : Removal) (image : List ℕ) (s n key : ℕ) (image′ 
   pub region : ℕ
   pub rec : Record
   pub found : lookupIn key Need.Nothing s image (probes key n) ≡ Looked.Live region rec
-  pub one-write : image′ ≡ written image (region * s + removalPlace how rec) (removalBytes how (regionOf s image region) rec)
+  pub one-write : image′ ≡ written image (region * s + killPlace how rec) (killBytes how rec)
   pub before : List Record
   pub after : List Record
   pub was-there : records (regionOf s image region) ≡ before ++ rec ∷ after

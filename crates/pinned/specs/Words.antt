@@ -8,10 +8,7 @@ use Rattle.region.specs.declared.Stop.{Stop}
 use Rattle.region.specs.declared.Want.{Want}
 use Rattle.region.specs.declared.Event.{Event}
 use Rattle.region.specs.Walk.{ending, eventIn}
-
--- A region does not decide: the walk for the key comes to the end.
-abbrev pub Passed : List ℕ → ℕ → ℕ → ℕ → Type 0
-Passed image s key q = (o : ℕ) × (eventIn (regionOf s image q) (Want.Key key) ≡ Event.End o)
+use Rattle.lookup.specs.Words.{Passed}
 
 -- "the first live record of the key or bad place answers": region r does, with this event, and no region before it.
 pub record Decides (image : List ℕ) (s key : ℕ) (order : List ℕ) (r : ℕ) (event : Event) : Type 0 where
@@ -24,7 +21,7 @@ pub record Decides (image : List ℕ) (s key : ℕ) (order : List ℕ) (r : ℕ)
 -- "with room, meaning o + length is at most S", where the walk of the region ends at o. A region with a bad place has none.
 pub record HasRoom (image : List ℕ) (s len r o : ℕ) : Type 0 where
   pub ends : ending (regionOf s image r) ≡ Stop.End o
-  pub room : o + len ≤ length (regionOf s image r)
+  pub enough : o + len ≤ length (regionOf s image r)
 
 -- "the first region in probe order with room"
 pub record FirstRoom (image : List ℕ) (s len : ℕ) (order : List ℕ) (r o : ℕ) : Type 0 where

@@ -15,38 +15,37 @@ use Rattle.chip.proofs.Lists.{Every, every-join, byte-after, sets-before, sets-
 use Rattle.chip.proofs.Laws.{blank-at, at-blank}
 use Rattle.region.specs.declared.Record.{Record}
 use Rattle.region.specs.declared.Stop.the-variants.{End, Bad}
-use Rattle.region.specs.declared.Step.{Step}
-use Rattle.region.specs.Walk.{lengthAt, flagsAt, keyAt, recordAt, stepOf, stepAt, View, stopped, walkFrom, records, ending, dead}
+use Rattle.region.specs.declared.Met.{Met}
+use Rattle.region.specs.Walk.{lengthAt, flagsAt, keyAt, recordAt, metOf, metAt, View, stopped, walkFrom, records, ending, dead}
 use Rattle.region.proofs.Numbers.{big-same}
 use Rattle.region.proofs.Steps.{Stands, stands-is, found, is-found, found-fits, found-at, walk-stop, placeOf}
 use Rattle.region.proofs.Reach.{Reach, reach-le, reach-join, reach-walk, reach-stop, stands-stop, is-walk, Split, split-records}
-use Rattle.region.proofs.Same.{moved, record-same, step-after, reach-before, reach-after, Kept, kept-before, kept-after}
+use Rattle.region.proofs.Same.{moved, record-same, met-after, reach-before, reach-after, Kept, kept-before, kept-after}
 
 -- A tail that is all 255 has no record.
 
 pub walk-blank : (r : List ℕ) (o : ℕ) → isBlank (drop o r) ≡ true → walkFrom r o ≡ stopped (End o)
 walk-blank r o h = walk-stop r o (End o) (go (ltb (length r - o) 15) refl)
   where
-    go : (b : Bool) → ltb (length r - o) 15 ≡ b → stepAt r o ≡ Step.Stop (End o)
-    go true e = stands-is _ _ _ _ (Stands.short (ltb-true _ _ e))
+    go : (b : Bool) → ltb (length r - o) 15 ≡ b → metAt r o ≡ Met.Stop (End o)
+    go true e = stands-is _ _ _ (Stands.short (ltb-true _ _ e))
     go false e =
         let l : 15 ≤ length r - o = ltb-false _ _ e in
         let v : getD r o 0 ≡ 255 = ap (λ (p : ℕ). getD r p 0) (sym (add-zero o)) ∙ sym (getD-drop o r 0 0) ∙ blank-at (drop o r) h 0 (omega (arith, length-drop o r)) in
-        stands-is _ _ _ _ (Stands.free l v)
+        stands-is _ _ _ (Stands.free l v)
 
 -- A record's bytes, laid down at the end of a region whose tail is blank, are one record more.
 
-module _ (r b : List ℕ) (p : ℕ) (x : Record) (fits : p + length b ≤ length r) (says : stepAt b 0 ≡ Step.Found x) (size : x .len ≡ length b) where
-  step-laid : stepAt (sets r p b) p ≡ Step.Found (moved p x)
-  step-laid =
-      let s = found (length b - 0) (getD b 0 0) (recordAt b 0) x says in
+module _ (r b : List ℕ) (p : ℕ) (x : Record) (fits : p + length b ≤ length r) (says : metAt b 0 ≡ Met.Found x) (size : x .len ≡ length b) where
+  met-laid : metAt (sets r p b) p ≡ Met.Found (moved p x)
+  met-laid =
+      let s = found (length b - 0) (recordAt b 0) x says in
       let m = length-sets r p b in
       let f = found-fits b 0 x says in
-      let v : getD (sets r p b) p 0 ≡ getD b 0 0 = rw add-zero at (sets-at r p b fits 0 (omega arith)) in
       let same : recordAt (sets r p b) p ≡ moved p x =
       record-same (sets r p b) b p 0 (λ k j. rw zero-add (sets-at r p b fits k (omega arith))) ∙ ap (moved p) (s .same) in
       let len : lengthAt (sets r p b) p ≡ x .len = ap (λ (y : Record). y .len) same in
-      is-found _ _ _ _ (record { room = omega arith; version-is = v ∙ s .version-is; least = omega arith; fits = omega arith; same = same })
+      is-found _ _ _ (record { space = omega arith; version-is = ap (λ (y : Record). y .version) (same ∙ ap (moved p) (sym (s .same))) ∙ s .version-is; least = omega arith; fits = omega arith; same = same })
 
   module _ (end : ending r ≡ End p) (blank : isBlank (drop p r) ≡ true) where
     to-end : Reach r 0 p (records r)
@@ -64,7 +63,7 @@ module _ (r b : List ℕ) (p : ℕ) (x : Record) (fits : p + length b ≤ length
 
     pub walk-laid : walkFrom (sets r p b) 0 ≡ record { recs = records r ++ moved p x ∷ []; stop = End (p + length b) }
     walk-laid =
-        reach-walk (reach-join (reach-before (sets r p b) (length-sets r p b) (sets-before r p b fits) to-end) (Reach.past step-laid Reach.here))
+        reach-walk (reach-join (reach-before (sets r p b) (length-sets r p b) (sets-before r p b fits) to-end) (Reach.past met-laid Reach.here))
         ∙ rw (size, walk-blank (sets r p b) (p + length b) blank-after, append-nil)
 
     pub kept-laid : Kept (sets r p b) r (records r)
@@ -81,13 +80,13 @@ pub record Buried (r′ r : List ℕ) (x : Record) : Type 0 where
   pub rest : (k : ℕ) → k < 11 → (k ≡ 1 → ⊥) → getD r′ (x .at + k) 0 ≡ getD r (x .at + k) 0
 
 -- flags without the top one
-flag-gone : (b : ℕ) → b % 128 / 16 ≡ b / 16 % 8
+pub flag-gone : (b : ℕ) → b % 128 / 16 ≡ b / 16 % 8
 flag-gone b = let q : b / 16 ≡ b / 128 * 8 + b % 128 / 16 = omega arith in omega arith
 
-step-buried : (r′ r : List ℕ) (x : Record) → Buried r′ r x → stepAt r (x .at) ≡ Step.Found x → stepAt r′ (x .at) ≡ Step.Found (dead x)
-step-buried r′ r x u q =
+met-buried : (r′ r : List ℕ) (x : Record) → Buried r′ r x → metAt r (x .at) ≡ Met.Found x → metAt r′ (x .at) ≡ Met.Found (dead x)
+met-buried r′ r x u q =
     let o = x .at in
-    let s = found (length r - o) (getD r o 0) (recordAt r o) x q in
+    let s = found (length r - o) (recordAt r o) x q in
     let n = u .as-long in
     let one = u .flag in
     let two = u .rest 2 (omega arith) (λ e. omega arith) in
@@ -95,10 +94,10 @@ step-buried r′ r x u q =
     let len : lengthAt r′ o ≡ lengthAt r o = omega arith in
     let flags : flagsAt r′ o ≡ flagsAt r o % 8 = ap (λ (b : ℕ). b / 16) one ∙ flag-gone (getD r (o + 1) 0) in
     let key : keyAt r′ o ≡ keyAt r o = big-same _ _ _ _ 8 (λ k l. rw (add-assoc o 3 k) (u .rest (3 + k) (omega arith) (λ e. omega arith))) in
-    let same : recordAt r′ o ≡ dead (recordAt r o) = λ i. record { at = o; len = len i; flags = flags i; key = key i } in
-    is-found _ _ _ _
+    let same : recordAt r′ o ≡ dead (recordAt r o) = λ i. record { at = o; len = len i; version = v i; flags = flags i; key = key i } in
+    is-found _ _ _
     (record {
-      room = omega arith;
+      space = omega arith;
       version-is = v ∙ s .version-is;
       least = omega arith;
       fits = omega arith;
@@ -114,8 +113,8 @@ module _ (r′ r : List ℕ) (a : List Record) (x : Record) (b : List Record) (u
       (record {
         place = placeOf (ending r);
         reach = reach-join (reach-before r′ (u .as-long) (u .before) (s .to))
-            (Reach.past (step-buried r′ r x u (s .stands)) (reach-after r′ (x .at + x .len) (u .as-long) (u .after) (omega arith) (s .from)));
-        stops = step-after r′ r (x .at + x .len) (placeOf (ending r)) (u .as-long) (u .after) (reach-le (s .from)) ∙ stands-stop r;
+            (Reach.past (met-buried r′ r x u (s .stands)) (reach-after r′ (x .at + x .len) (u .as-long) (u .after) (omega arith) (s .from)));
+        stops = met-after r′ r (x .at + x .len) (placeOf (ending r)) (u .as-long) (u .after) (reach-le (s .from)) ∙ stands-stop r;
       })
 
   pub kept-buried : Kept r′ r (a ++ b)

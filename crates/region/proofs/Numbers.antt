@@ -3,13 +3,13 @@
 use Prim.Native.Nat.{ℕ, zero, suc, _+_, _*_, _/_, _%_, _^_, _≤_, _<_}
 use native.Mathlib.Nat.{pow-le-pow-right, zero-add, add-zero}
 use native.Mathlib.Omega.{arith}
-use mathlib.Core.Path.{_≡_, refl}
+use mathlib.Core.Path.{_≡_, refl, sym, _∙_}
 use mathlib.Core.List.{List, [], _∷_, _++_}
-use lib.ListN.{length, getD, length-append, List·getD-append}
-use lib.Seq.{getD-at}
+use lib.ListN.{length, getD, take, drop, length-append, length-drop, List·getD-append}
+use lib.Seq.{getD-at, getD-drop, take-suc}
 use Rattle.chip.specs.Chip.{Bytes}
 use Rattle.chip.proofs.Laws.{bytes-cons, bytes-append}
-use Rattle.region.specs.Record.{bigEndian, littleEndian, sumAt}
+use Rattle.region.specs.Layout.{bigEndian, littleEndian, sumAt}
 use Rattle.region.specs.Walk.{bigEndianAt}
 
 -- a number of fewer than 8 bytes has room for one more in 64 bits
@@ -55,8 +55,22 @@ pub little-says : (n : ℕ) → n < 2 ^ 32 → sumAt (littleEndian 4 n) 0 ≡ n
 unfolding littleEndian
 little-says n h = omega arith
 
+-- and the number that bytes say has these bytes, where each is below 256
+pub big-back : (k : ℕ) (r : List ℕ) (o : ℕ) → Bytes r → o + k ≤ length r → bigEndian k (bigEndianAt k r o) ≡ take k (drop o r)
+unfolding bigEndian bigEndianAt
+big-back zero r o b h = refl
+big-back (suc k) r o b h =
+    let n = bigEndianAt k r o in
+    let byte = getD r (o + k) 0 in
+    let l : byte < 256 = b (o + k) in
+    let high : (n * 256 + byte) / 256 ≡ n = omega arith in
+    let low : (n * 256 + byte) % 256 ≡ byte = omega arith in
+    (λ i. bigEndian k (high i) ++ (low i ∷ []))
+    ∙ (λ i. big-back k r o b (omega arith) i ++ (sym (getD-drop o r k 0) i ∷ []))
+    ∙ sym (take-suc (drop o r) k 0 (omega (arith, length-drop o r)))
+
 -- each byte of a number is below 256
-no-bytes : Bytes []
+pub no-bytes : Bytes []
 no-bytes k = omega arith
 
 pub big-bytes : (k n : ℕ) → Bytes (bigEndian k n)

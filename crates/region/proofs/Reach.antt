@@ -8,14 +8,14 @@ use lib.ListN.{length}
 use Rattle.region.specs.declared.Record.{Record}
 use Rattle.region.specs.declared.Stop.{Stop}
 use Rattle.region.specs.declared.Stop.the-variants.{End, Bad}
-use Rattle.region.specs.declared.Step.{Step}
-use Rattle.region.specs.Walk.{recordAt, stepAt, View, stopped, passed, walkFrom, records, ending}
+use Rattle.region.specs.declared.Met.{Met}
+use Rattle.region.specs.Walk.{recordAt, metAt, View, stopped, passed, walkFrom, records, ending}
 use Rattle.region.proofs.Steps.{found-fits, found-at, end-short, walk-stop, walk-found, placeOf, stop-place}
 
 -- The walk of r comes from o to p over these records.
 pub data Reach (r : List ℕ) : ℕ → ℕ → List Record → Type 0 where
   here : {o : ℕ} → Reach r o o []
-  past : {o p : ℕ} {x : Record} {xs : List Record} → stepAt r o ≡ Step.Found x → Reach r (o + x .len) p xs → Reach r o p (x ∷ xs)
+  past : {o p : ℕ} {x : Record} {xs : List Record} → metAt r o ≡ Met.Found x → Reach r (o + x .len) p xs → Reach r o p (x ∷ xs)
 
 pub reach-le : {r : List ℕ} {o p : ℕ} {xs : List Record} → Reach r o p xs → o ≤ p
 reach-le {o} here = omega arith
@@ -36,17 +36,17 @@ reach-walk {r} (past {o} {p} {x} {xs} h k) = walk-found r o x h ∙ ap (passed x
 pub record Walked (r : List ℕ) (o : ℕ) (v : View) : Type 0 where
   pub place : ℕ
   pub reach : Reach r o place (v .recs)
-  pub stops : stepAt r place ≡ Step.Stop (v .stop)
+  pub stops : metAt r place ≡ Met.Stop (v .stop)
 
 walked-in : (r : List ℕ) (n o : ℕ) → length r - o ≤ n → Walked r o (walkFrom r o)
 walked-in r zero o h =
     let q = end-short r o (omega arith) in
     rw (walk-stop r o (End o) q) (record { place = o; reach = here; stops = q })
-walked-in r (suc n) o h = go (walked-in r n) (stepAt r o) refl
+walked-in r (suc n) o h = go (walked-in r n) (metAt r o) refl
   where
-    go : ((p : ℕ) → length r - p ≤ n → Walked r p (walkFrom r p)) → (s : Step) → stepAt r o ≡ s → Walked r o (walkFrom r o)
-    go ih (Step.Stop s) q = rw (walk-stop r o s q) (record { place = o; reach = here; stops = q })
-    go ih (Step.Found x) q =
+    go : ((p : ℕ) → length r - p ≤ n → Walked r p (walkFrom r p)) → (s : Met) → metAt r o ≡ s → Walked r o (walkFrom r o)
+    go ih (Met.Stop s) q = rw (walk-stop r o s q) (record { place = o; reach = here; stops = q })
+    go ih (Met.Found x) q =
         let f = found-fits r o x q in
         let w = ih (o + x .len) (omega arith) in
         rw (walk-found r o x q) (record { place = w .place; reach = past q (w .reach); stops = w .stops })
@@ -61,12 +61,12 @@ is-walk {r} {o} {v} w = reach-walk (w .reach) ∙ rw (walk-stop r (w .place) (v 
 pub reach-stop : (r : List ℕ) → Reach r 0 (placeOf (ending r)) (records r)
 reach-stop r =
     let w = walked r 0 in
-    subst (λ (p : ℕ). Reach r 0 p (records r)) (stop-place _ _ _ (ending r) (w .stops)) (w .reach)
+    subst (λ (p : ℕ). Reach r 0 p (records r)) (stop-place _ _ (ending r) (w .stops)) (w .reach)
 
-pub stands-stop : (r : List ℕ) → stepAt r (placeOf (ending r)) ≡ Step.Stop (ending r)
+pub stands-stop : (r : List ℕ) → metAt r (placeOf (ending r)) ≡ Met.Stop (ending r)
 stands-stop r =
     let w = walked r 0 in
-    subst (λ (p : ℕ). stepAt r p ≡ Step.Stop (ending r)) (stop-place _ _ _ (ending r) (w .stops)) (w .stops)
+    subst (λ (p : ℕ). metAt r p ≡ Met.Stop (ending r)) (stop-place _ _ (ending r) (w .stops)) (w .stops)
 
 pub reach-within : {r : List ℕ} {o p : ℕ} {xs : List Record} → o ≤ length r → Reach r o p xs → p ≤ length r
 reach-within l here = l
@@ -75,7 +75,7 @@ reach-within {r} l (past {o} {p} {x} h k) = let f = found-fits r o x h in reach-
 -- A record among those that a walk passes stands at its place.
 pub record Split (r : List ℕ) (o p : ℕ) (a : List Record) (x : Record) (b : List Record) : Type 0 where
   pub to : Reach r o (x .at) a
-  pub stands : stepAt r (x .at) ≡ Step.Found x
+  pub stands : metAt r (x .at) ≡ Met.Found x
   pub from : Reach r (x .at + x .len) p b
 
 pub split : {r : List ℕ} {o p : ℕ} (a : List Record) (x : Record) (b : List Record) → Reach r o p (a ++ x ∷ b) → Split r o p a x b
@@ -83,7 +83,7 @@ split {r} {p} [] x b (past {o} h k) =
     let e = found-at r o x h in
     record {
       to = subst (λ (q : ℕ). Reach r o q []) e here;
-      stands = subst (λ (q : ℕ). stepAt r q ≡ Step.Found x) e h;
+      stands = subst (λ (q : ℕ). metAt r q ≡ Met.Found x) e h;
       from = subst (λ (q : ℕ). Reach r (q + x .len) p b) e k;
     }
 split (y ∷ a) x b (past h k) = let s = split a x b k in record { to = past h (s .to); stands = s .stands; from = s .from }

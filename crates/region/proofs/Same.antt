@@ -8,8 +8,8 @@ use mathlib.Core.List.{List, [], _∷_}
 use lib.ListN.{length, getD, take, drop}
 use Rattle.chip.proofs.Lists.{Every, byte-before, byte-after, part-before, part-after}
 use Rattle.region.specs.declared.Record.{Record}
-use Rattle.region.specs.declared.Step.{Step}
-use Rattle.region.specs.Walk.{recordAt, stepOf, stepAt, bytesIn}
+use Rattle.region.specs.declared.Met.{Met}
+use Rattle.region.specs.Walk.{recordAt, metOf, metAt, bytesIn}
 pub use Rattle.region.specs.Words.{Kept}
 use Rattle.region.proofs.Numbers.{big-same}
 use Rattle.region.proofs.Steps.{found-fits, found-at}
@@ -17,25 +17,24 @@ use Rattle.region.proofs.Reach.{Reach, reach-le}
 
 -- a record, at another place
 abbrev pub moved : ℕ → Record → Record
-moved o x = record { at = o; len = x .len; flags = x .flags; key = x .key }
+moved o x = record { at = o; len = x .len; version = x .version; flags = x .flags; key = x .key }
 
 -- a header's eleven bytes say the record
 pub record-same : (r′ r : List ℕ) (o′ o : ℕ) → ((k : ℕ) → k < 11 → getD r′ (o′ + k) 0 ≡ getD r (o + k) 0) → recordAt r′ o′ ≡ moved o′ (recordAt r o)
 record-same r′ r o′ o h = λ i. record {
   at = o′;
-  len = h 1 (omega arith) i % 16 * 256 + h 2 (omega arith) i;
+  len = h 1 (omega arith) i % 16 * 256 + h 2 (omega arith) i % 256;
+  version = (rw (add-zero o′, add-zero o) at (h 0 (omega arith))) i;
   flags = h 1 (omega arith) i / 16;
   key = big-same r′ r (o′ + 3) (o + 3) 8 (λ k l. rw (add-assoc o′ 3 k, add-assoc o 3 k) (h (3 + k) (omega arith))) i;
 }
 
 -- what stands at a place is the same in a region that has as many bytes and the same eleven bytes there
-pub step-same : (r′ r : List ℕ) (o : ℕ) → length r′ ≡ length r → ((k : ℕ) → k < 11 → getD r′ (o + k) 0 ≡ getD r (o + k) 0) → stepAt r′ o ≡ stepAt r o
-step-same r′ r o e h =
-    let v : getD r′ o 0 ≡ getD r o 0 = rw (add-zero o) at (h 0 (omega arith)) in
-    λ i. stepOf (e i - o) (v i) (record-same r′ r o o h i)
+pub met-same : (r′ r : List ℕ) (o : ℕ) → length r′ ≡ length r → ((k : ℕ) → k < 11 → getD r′ (o + k) 0 ≡ getD r (o + k) 0) → metAt r′ o ≡ metAt r o
+met-same r′ r o e h = λ i. metOf (e i - o) (record-same r′ r o o h i)
 
-pub step-after : (r′ r : List ℕ) (p o : ℕ) → length r′ ≡ length r → drop p r′ ≡ drop p r → p ≤ o → stepAt r′ o ≡ stepAt r o
-step-after r′ r p o e d h = step-same r′ r o e (λ i j. byte-after r′ r p (o + i) d (omega arith))
+pub met-after : (r′ r : List ℕ) (p o : ℕ) → length r′ ≡ length r → drop p r′ ≡ drop p r → p ≤ o → metAt r′ o ≡ metAt r o
+met-after r′ r p o e d h = met-same r′ r o e (λ i j. byte-after r′ r p (o + i) d (omega arith))
 
 -- records before p stand where the bytes before p are the same, and those from p on where these are
 pub reach-before : {r : List ℕ} {o p : ℕ} {xs : List Record} (r′ : List ℕ) → length r′ ≡ length r → take p r′ ≡ take p r → Reach r o p xs → Reach r′ o p xs
@@ -43,11 +42,11 @@ reach-before r′ e t Reach.here = Reach.here
 reach-before {r} r′ e t (Reach.past {o} {p} {x} h k) =
     let f = found-fits r o x h in
     let m = reach-le k in
-    Reach.past (step-same r′ r o e (λ i j. byte-before r′ r p (o + i) t (omega arith)) ∙ h) (reach-before r′ e t k)
+    Reach.past (met-same r′ r o e (λ i j. byte-before r′ r p (o + i) t (omega arith)) ∙ h) (reach-before r′ e t k)
 
 pub reach-after : {r : List ℕ} {o q : ℕ} {xs : List Record} (r′ : List ℕ) (p : ℕ) → length r′ ≡ length r → drop p r′ ≡ drop p r → p ≤ o → Reach r o q xs → Reach r′ o q xs
 reach-after r′ p e d h Reach.here = Reach.here
-reach-after {r} r′ p e d h (Reach.past {o} q k) = Reach.past (step-after r′ r p o e d h ∙ q) (reach-after r′ p e d (omega arith) k)
+reach-after {r} r′ p e d h (Reach.past {o} q k) = Reach.past (met-after r′ r p o e d h ∙ q) (reach-after r′ p e d (omega arith) k)
 
 pub kept-before : {r : List ℕ} {o p : ℕ} {xs : List Record} (r′ : List ℕ) → take p r′ ≡ take p r → Reach r o p xs → Kept r′ r xs
 kept-before r′ t Reach.here = Every.none

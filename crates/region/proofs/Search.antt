@@ -9,9 +9,9 @@ use Rattle.chip.proofs.Lists.{Every}
 use Rattle.region.specs.declared.Record.{Record}
 use Rattle.region.specs.declared.Stop.{Stop}
 use Rattle.region.specs.declared.Stop.the-variants.{End, Bad}
-use Rattle.region.specs.declared.Step.{Step}
+use Rattle.region.specs.declared.Met.{Met}
 use Rattle.region.specs.declared.Event.{Event}
-use Rattle.region.specs.Walk.{stepAt, walkFrom, eventOf, firstOf}
+use Rattle.region.specs.Walk.{metAt, walkFrom, eventOf, firstOf}
 pub use Rattle.region.specs.Words.{None, First}
 use Rattle.region.proofs.Steps.{walk-stop, walk-found}
 
@@ -19,11 +19,11 @@ use Rattle.region.proofs.Steps.{walk-stop, walk-found}
 abbrev pub firstFrom : (Record → Bool) → List ℕ → ℕ → Event
 firstFrom test r o = firstOf test (walkFrom r o .recs) (walkFrom r o .stop)
 
-pub first-stop : (test : Record → Bool) (r : List ℕ) (o : ℕ) (s : Stop) → stepAt r o ≡ Step.Stop s → firstFrom test r o ≡ eventOf s
+pub first-stop : (test : Record → Bool) (r : List ℕ) (o : ℕ) (s : Stop) → metAt r o ≡ Met.Stop s → firstFrom test r o ≡ eventOf s
 unfolding firstOf
 first-stop test r o s h = rw (walk-stop r o s h)
 
-pub first-found : (test : Record → Bool) (r : List ℕ) (o : ℕ) (x : Record) (b : Bool) → stepAt r o ≡ Step.Found x → test x ≡ b
+pub first-found : (test : Record → Bool) (r : List ℕ) (o : ℕ) (x : Record) (b : Bool) → metAt r o ≡ Met.Found x → test x ≡ b
     → firstFrom test r o ≡ cond b (Event.Live x) (firstFrom test r (o + x .len))
 unfolding firstOf
 first-found test r o x b h e = rw (walk-found r o x h, e)

@@ -2,36 +2,39 @@
 -- `None`, `First` (Search.antt): no record of a list is wanted, and the first that is. `Kept` (Same.antt): the bytes of these records are the same
 -- in both regions. `placeOf` (Steps.antt): the place of a stop.
 -- Assumes nothing.
-use Prim.Native.Nat.{ℕ, _+_, _%_, _^_, _≤_, _<_}
+use Prim.Native.Nat.{ℕ, _+_, _-_, _%_, _^_, _≤_, _<_}
 use native.Mathlib.Nat.{add-zero}
 use native.Mathlib.Omega.{arith}
 use mathlib.Core.Path.{_≡_, refl, sym, _∙_, ap, subst}
 use mathlib.Core.Bool.{Bool, true, false}
 use mathlib.Core.List.{List, [], _∷_, _++_}
-use lib.ListN.{length, take, drop}
+use lib.ListN.{length, getD, take, drop, set, replicate, length-append, length-replicate}
 use lib.Seq.{sets, take-all}
 use borrow.Author.Tests.{lt-leb}
 use Rattle.crc32.proofs.Theorems.{checksum-fits}
-use Rattle.chip.specs.Chip.{Bytes, erased, isBlank}
+use Rattle.chip.specs.Chip.{Bytes, written, erased, isBlank}
 use Rattle.chip.proofs.Lists.{sets-after, sets-part}
-use Rattle.chip.proofs.Laws.{blank-take, blank-erased}
+use Rattle.chip.proofs.Runs.{Within, written-run, run-within}
+use Rattle.chip.proofs.Laws.{bytes-cons, bytes-append, blank-take, blank-erased}
 use Rattle.chip.proofs.Theorems.{over-blank}
 use Rattle.region.specs.declared.Record.{Record}
 use Rattle.region.specs.declared.Stop.{Stop}
 use Rattle.region.specs.declared.Stop.the-variants.{End, Bad}
-use Rattle.region.specs.declared.Step.{Step}
+use Rattle.region.specs.declared.Met.{Met}
 use Rattle.region.specs.declared.Want.{Want}
 use Rattle.region.specs.declared.Event.{Event}
-use Rattle.region.specs.Record.{recordLength, headerAndValue, recordBytes, appended, invalidated, zeroised, zeroBytes, checkSumFits}
-use Rattle.region.specs.Walk.{stepAt, live, walkFrom, records, ending, valueIn, bytesIn, recordOf, dead, isWanted, eventOf, eventIn}
-use Rattle.region.proofs.Bytes.{length-record, record-bytes, record-says, value-says, sum-says}
-use Rattle.region.proofs.Steps.{found-fits, placeOf}
+use Rattle.region.specs.declared.Removal.{Removal}
+use Rattle.region.specs.Layout.{edition, mostLength, recordLength, headerAndValue, recordBytes, deadHeader, killBytes, killLength, killPlace, checkSumFits}
+use Rattle.region.specs.Walk.{lengthAt, flagsAt, recordAt, metAt, live, walkFrom, records, ending, valueIn, bytesIn, recordOf, dead, isWanted, eventOf, eventIn}
+use Rattle.region.proofs.Numbers.{no-bytes}
+use Rattle.region.proofs.Bytes.{length-header, length-record, record-bytes, record-says, value-says, sum-says}
+use Rattle.region.proofs.Steps.{Found, found, found-fits, placeOf}
 use Rattle.region.proofs.Reach.{reach-le, reach-stop, reach-within, Split, split, split-records}
 use Rattle.region.proofs.Same.{Kept}
 use Rattle.region.proofs.Search as Search
 use Rattle.region.proofs.Search.{First, None, first-live, is-first, none-passes}
 use Rattle.region.proofs.Change.{walk-blank, walk-laid, kept-laid, walk-buried, kept-buried}
-use Rattle.region.proofs.Kill.{length-zero, zeroise-stores, invalidate-buries, zeroise-buries}
+use Rattle.region.proofs.Kill.{zero-bytes, dead-bytes, bytes-are, kill-stores, kill-buries}
 
 -- A live record decides a search where it is the first that is wanted, and only there.
 pub live-decides : (r : List ℕ) (want : Want) (x : Record) → eventIn r want ≡ Event.Live x → First (isWanted want) (records r) x
@@ -52,9 +55,28 @@ none-decides r want n = none-passes (isWanted want) (records r) (ending r) n
 pub blank-region : (size : ℕ) → walkFrom (erased size) 0 ≡ record { recs = []; stop = End 0 }
 blank-region size = walk-blank (erased size) 0 (blank-erased size)
 
+found-there : (r : List ℕ) (a : List Record) (x : Record) (b : List Record) → records r ≡ a ++ x ∷ b → Found (length r - x .at) (recordAt r (x .at)) x
+found-there r a x b e = found (length r - x .at) (recordAt r (x .at)) x (split-records r a x b e .stands)
+
 -- Records lie within the region, and are 15 bytes or longer.
 pub records-within : (r : List ℕ) (a : List Record) (x : Record) (b : List Record) → records r ≡ a ++ x ∷ b → (15 ≤ x .len) × (x .at + x .len ≤ length r)
 records-within r a x b e = found-fits r (x .at) x (split-records r a x b e .stands)
+
+-- What a record's header says fits its bits: the one version that is read, 12 bits of length, and 4 of flags.
+pub records-edition : (r : List ℕ) (a : List Record) (x : Record) (b : List Record) → records r ≡ a ++ x ∷ b → x .version ≡ edition
+records-edition r a x b e =
+    let f = found-there r a x b e in
+    ap (λ (y : Record). y .version) (sym (f .same)) ∙ f .version-is
+
+pub records-short : (r : List ℕ) (a : List Record) (x : Record) (b : List Record) → records r ≡ a ++ x ∷ b → x .len ≤ mostLength
+records-short r a x b e =
+    let l : lengthAt r (x .at) ≡ x .len = ap (λ (y : Record). y .len) (found-there r a x b e .same) in
+    omega arith
+
+pub records-flags : (r : List ℕ) (a : List Record) (x : Record) (b : List Record) → records r ≡ a ++ x ∷ b → Bytes r → x .flags ≤ 15
+records-flags r a x b e v =
+    let l : flagsAt r (x .at) ≡ x .flags = ap (λ (y : Record). y .flags) (found-there r a x b e .same) in
+    omega (arith, v (x .at + 1))
 
 -- Records never overlap: each ends where the next begins or before.
 pub records-apart : (r : List ℕ) (a : List Record) (x : Record) (b : List Record) (y : Record) (c : List Record)
@@ -70,83 +92,127 @@ stops-behind r a x b e = reach-le (split-records r a x b e .from)
 
 -- The bytes of a record read back to its key, length and value, and its checksum is right.
 pub reads-back : (key : ℕ) (value : List ℕ) → key < 2 ^ 64 → length value ≤ 4079
-    → (length (recordBytes key value) ≡ recordLength value)
-    × (stepAt (recordBytes key value) 0 ≡ Step.Found (recordOf 0 key value))
+    → (length (recordBytes key value) ≡ recordLength (length value))
+    × (metAt (recordBytes key value) 0 ≡ Met.Found (recordOf 0 key value))
     × (valueIn (recordBytes key value) (recordOf 0 key value) ≡ value)
     × (checkSumFits (recordBytes key value) ≡ true)
 reads-back key value h l = (length-record key value, record-says key value h l, value-says key value, sum-says key value (checksum-fits (headerAndValue key value)))
 
 -- Append's write at the end of a region whose tail is all 255 adds exactly that record, and leaves the bytes of all others.
-pub append-adds : (r : List ℕ) (o key : ℕ) (value : List ℕ) → ending r ≡ End o → isBlank (drop o r) ≡ true → o + recordLength value ≤ length r
+pub append-adds : (r : List ℕ) (o key : ℕ) (value : List ℕ) → ending r ≡ End o → isBlank (drop o r) ≡ true → o + recordLength (length value) ≤ length r
     → key < 2 ^ 64 → length value ≤ 4079 → Bytes value
-    → (walkFrom (appended r o key value) 0 ≡ record { recs = records r ++ recordOf o key value ∷ []; stop = End (o + recordLength value) })
-    × Kept (appended r o key value) r (records r)
+    → (walkFrom (written r o (recordBytes key value)) 0 ≡ record { recs = records r ++ recordOf o key value ∷ []; stop = End (o + recordLength (length value)) })
+    × Kept (written r o (recordBytes key value)) r (records r)
 append-adds r o key value e b f k l v =
     let new = recordBytes key value in
     let n = length-record key value in
     let fits : o + length new ≤ length r = omega arith in
-    let s : appended r o key value ≡ sets r o new = over-blank r o new (record-bytes key value l v) fits (blank-take (length new) (drop o r) b) in
+    let s : written r o (recordBytes key value) ≡ sets r o new = over-blank r o new (record-bytes key value l v) fits (blank-take (length new) (drop o r) b) in
     let says = record-says key value k l in (
-      subst (λ (r′ : List ℕ). walkFrom r′ 0 ≡ record { recs = records r ++ recordOf o key value ∷ []; stop = End (o + recordLength value) }) (sym s)
+      subst (λ (r′ : List ℕ). walkFrom r′ 0 ≡ record { recs = records r ++ recordOf o key value ∷ []; stop = End (o + recordLength (length value)) }) (sym s)
           (walk-laid r new o (recordOf 0 key value) fits says (sym n) e b ∙ ap (λ (m : ℕ). record { recs = records r ++ recordOf o key value ∷ []; stop = End (o + m) }) n),
       subst (λ (r′ : List ℕ). Kept r′ r (records r)) (sym s) (kept-laid r new o (recordOf 0 key value) fits says (sym n) e b),
     )
 
 -- What append wrote stands there: over a blank place the record's bytes are those of its key and value.
-pub append-writes : (r : List ℕ) (o key : ℕ) (value : List ℕ) → isBlank (take (recordLength value) (drop o r)) ≡ true → o + recordLength value ≤ length r
-    → length value ≤ 4079 → Bytes value → bytesIn (appended r o key value) (recordOf o key value) ≡ recordBytes key value
+pub append-writes : (r : List ℕ) (o key : ℕ) (value : List ℕ) → isBlank (take (recordLength (length value)) (drop o r)) ≡ true → o + recordLength (length value) ≤ length r
+    → length value ≤ 4079 → Bytes value → bytesIn (written r o (recordBytes key value)) (recordOf o key value) ≡ recordBytes key value
 append-writes r o key value b f l v =
     let new = recordBytes key value in
     let n = length-record key value in
     let fits : o + length new ≤ length r = omega arith in
     let blank : isBlank (take (length new) (drop o r)) ≡ true = rw n b in
     let s = over-blank r o new (record-bytes key value l v) fits blank in
-    let w : take (recordLength value) (drop (o + 0) (sets r o new)) ≡ take (recordLength value) (drop 0 new) = sets-part r o new fits 0 (recordLength value) (omega arith) in
-    rw s (rw add-zero at w ∙ take-all (recordLength value) new (omega arith))
+    let w : take (recordLength (length value)) (drop (o + 0) (sets r o new)) ≡ take (recordLength (length value)) (drop 0 new) = sets-part r o new fits 0 (recordLength (length value)) (omega arith) in
+    rw s (rw add-zero at w ∙ take-all (recordLength (length value)) new (omega arith))
 
--- Invalidate's write makes exactly that record dead, and leaves the bytes of all others.
-pub invalidate-kills : (r : List ℕ) (a : List Record) (x : Record) (b : List Record) → records r ≡ a ++ x ∷ b
-    → (walkFrom (invalidated r (x .at)) 0 ≡ record { recs = a ++ dead x ∷ b; stop = ending r }) × Kept (invalidated r (x .at)) r (a ++ b)
-invalidate-kills r a x b e =
-    let (l, f) = records-within r a x b e in
-    let u = invalidate-buries r x l f in
-    (walk-buried (invalidated r (x .at)) r a x b u e, kept-buried (invalidated r (x .at)) r a x b u e)
+-- What makes a record dead is computed from the record alone, and is what document 01 asks for of the region's bytes: "one write of byte 1 with the
+-- top bit cleared", and "header with the top flag cleared, value and checksum 0".
+pub removal-bytes : (r : List ℕ) (a : List Record) (x : Record) (b : List Record) → Bytes r → records r ≡ a ++ x ∷ b
+    → (killBytes Removal.Invalidate x ≡ getD r (x .at + 1) 0 % 128 ∷ [])
+    × (killBytes Removal.Zeroise x ≡ set (take 11 (drop (x .at) r)) 1 (getD r (x .at + 1) 0 % 128) ++ replicate (x .len - 11) 0)
+removal-bytes r a x b v e =
+    let are = bytes-are r x v (split-records r a x b e .stands) in
+    (are Removal.Invalidate, are Removal.Zeroise)
 
--- So does zeroise's.
-pub zeroise-kills : (r : List ℕ) (a : List Record) (x : Record) (b : List Record) → records r ≡ a ++ x ∷ b
-    → (walkFrom (zeroised r (x .at) (x .len)) 0 ≡ record { recs = a ++ dead x ∷ b; stop = ending r }) × Kept (zeroised r (x .at) (x .len)) r (a ++ b)
-zeroise-kills r a x b e =
-    let (l, f) = records-within r a x b e in
-    let u = zeroise-buries r x l f in
-    (walk-buried (zeroised r (x .at) (x .len)) r a x b u e, kept-buried (zeroised r (x .at) (x .len)) r a x b u e)
+-- They are as many as said, and each is a byte.
+pub kill-length : (how : Removal) (x : Record) → 15 ≤ x .len → length (killBytes how x) ≡ killLength how x
+kill-length Removal.Invalidate x h = refl
+kill-length Removal.Zeroise x h =
+    length-append (deadHeader x) (replicate (x .len - 11) 0)
+    ∙ omega (arith, length-header (x .version) (x .flags % 8) (x .len) (x .key), length-replicate {A = ℕ} (x .len - 11) 0)
 
--- Zeroise leaves the record's header with the top flag cleared, and zeros over its value and checksum.
-pub zeroise-zeros : (r : List ℕ) (a : List Record) (x : Record) (b : List Record) → records r ≡ a ++ x ∷ b
-    → bytesIn (zeroised r (x .at) (x .len)) x ≡ zeroBytes r (x .at) (x .len)
-zeroise-zeros r a x b e =
+pub kill-bytes : (how : Removal) (x : Record) → x .version < 256 → x .len ≤ 4095 → Bytes (killBytes how x)
+kill-bytes Removal.Invalidate x v h = bytes-cons (getD (deadHeader x) 1 0) [] (dead-bytes x v h 1) no-bytes
+kill-bytes Removal.Zeroise x v h = bytes-append (deadHeader x) (replicate (x .len - 11) 0) (dead-bytes x v h) (zero-bytes (x .len - 11))
+
+-- Over the record the chip's write is the same as a store.
+pub removal-stores : (how : Removal) (r : List ℕ) (a : List Record) (x : Record) (b : List Record) → Bytes r → records r ≡ a ++ x ∷ b
+    → written r (killPlace how x) (killBytes how x) ≡ sets r (killPlace how x) (killBytes how x)
+removal-stores how r a x b v e = kill-stores how r x v (split-records r a x b e .stands)
+
+-- A removal's write makes exactly that record dead, and leaves the bytes of all others.
+pub removal-kills : (how : Removal) (r : List ℕ) (a : List Record) (x : Record) (b : List Record) → Bytes r → records r ≡ a ++ x ∷ b
+    → (walkFrom (written r (killPlace how x) (killBytes how x)) 0 ≡ record { recs = a ++ dead x ∷ b; stop = ending r })
+    × Kept (written r (killPlace how x) (killBytes how x)) r (a ++ b)
+removal-kills how r a x b v e =
+    let r′ = written r (killPlace how x) (killBytes how x) in
+    let u = kill-buries how r x v (split-records r a x b e .stands) in
+    (walk-buried r′ r a x b u e, kept-buried r′ r a x b u e)
+
+pub invalidate-kills : (r : List ℕ) (a : List Record) (x : Record) (b : List Record) → Bytes r → records r ≡ a ++ x ∷ b
+    → (walkFrom (written r (killPlace Removal.Invalidate x) (killBytes Removal.Invalidate x)) 0 ≡ record { recs = a ++ dead x ∷ b; stop = ending r })
+    × Kept (written r (killPlace Removal.Invalidate x) (killBytes Removal.Invalidate x)) r (a ++ b)
+invalidate-kills = removal-kills Removal.Invalidate
+
+pub zeroise-kills : (r : List ℕ) (a : List Record) (x : Record) (b : List Record) → Bytes r → records r ≡ a ++ x ∷ b
+    → (walkFrom (written r (killPlace Removal.Zeroise x) (killBytes Removal.Zeroise x)) 0 ≡ record { recs = a ++ dead x ∷ b; stop = ending r })
+    × Kept (written r (killPlace Removal.Zeroise x) (killBytes Removal.Zeroise x)) r (a ++ b)
+zeroise-kills = removal-kills Removal.Zeroise
+
+-- Zeroise leaves what it wrote: the record's header with the top flag cleared, and zeros over its value and checksum.
+pub zeroise-zeros : (r : List ℕ) (a : List Record) (x : Record) (b : List Record) → Bytes r → records r ≡ a ++ x ∷ b
+    → bytesIn (written r (killPlace Removal.Zeroise x) (killBytes Removal.Zeroise x)) x
+    ≡ set (take 11 (drop (x .at) r)) 1 (getD r (x .at + 1) 0 % 128) ++ replicate (x .len - 11) 0
+zeroise-zeros r a x b v e =
+    let (one, all) = removal-bytes r a x b v e in
     let (l, f) = records-within r a x b e in
-    let n = length-zero r (x .at) (x .len) l f in
-    let fits : x .at + length (zeroBytes r (x .at) (x .len)) ≤ length r = omega arith in
-    let w = sets-part r (x .at) (zeroBytes r (x .at) (x .len)) fits 0 (x .len) (omega arith) in
-    rw (zeroise-stores r (x .at) (x .len) l f) (rw add-zero at w ∙ take-all (x .len) (zeroBytes r (x .at) (x .len)) (omega arith))
+    let z = killBytes Removal.Zeroise x in
+    let n = kill-length Removal.Zeroise x l in
+    let fits : x .at + length z ≤ length r = omega arith in
+    let w : take (x .len) (drop (x .at + 0) (sets r (x .at) z)) ≡ take (x .len) (drop 0 z) = sets-part r (x .at) z fits 0 (x .len) (omega arith) in
+    let s : written r (x .at + 0) z ≡ sets r (x .at) z = removal-stores Removal.Zeroise r a x b v e ∙ ap (λ (p : ℕ). sets r p z) (add-zero (x .at)) in
+    ap (λ (r′ : List ℕ). bytesIn r′ x) s ∙ rw add-zero at w ∙ take-all (x .len) z (omega arith) ∙ all
 
 -- The bytes behind the last record stay: a tail that is all 255 is so after each of the writes.
-pub append-tail : (r : List ℕ) (o key : ℕ) (value : List ℕ) → isBlank (drop o r) ≡ true → o + recordLength value ≤ length r → length value ≤ 4079 → Bytes value
-    → drop (o + recordLength value) (appended r o key value) ≡ drop (o + recordLength value) r
+pub append-tail : (r : List ℕ) (o key : ℕ) (value : List ℕ) → isBlank (drop o r) ≡ true → o + recordLength (length value) ≤ length r → length value ≤ 4079 → Bytes value
+    → drop (o + recordLength (length value)) (written r o (recordBytes key value)) ≡ drop (o + recordLength (length value)) r
 append-tail r o key value b f l v =
     let new = recordBytes key value in
     let n = length-record key value in
     let fits : o + length new ≤ length r = omega arith in
     let s = over-blank r o new (record-bytes key value l v) fits (blank-take (length new) (drop o r) b) in
-    subst (λ (m : ℕ). drop (o + m) (appended r o key value) ≡ drop (o + m) r) n (rw s (sets-after r o new fits))
+    subst (λ (m : ℕ). drop (o + m) (written r o (recordBytes key value)) ≡ drop (o + m) r) n (rw s (sets-after r o new fits))
+
+pub removal-tail : (how : Removal) (r : List ℕ) (a : List Record) (x : Record) (b : List Record) → records r ≡ a ++ x ∷ b
+    → drop (x .at + x .len) (written r (killPlace how x) (killBytes how x)) ≡ drop (x .at + x .len) r
+removal-tail how r a x b e = let (l, f) = records-within r a x b e in inside how l
+  where
+    within : (how : Removal) → x .at ≤ killPlace how x → killPlace how x + length (killBytes how x) ≤ x .at + x .len
+        → drop (x .at + x .len) (written r (killPlace how x) (killBytes how x)) ≡ drop (x .at + x .len) r
+    within how p q = run-within written-run r (killPlace how x) (killBytes how x) (x .at) (x .len) p q .after
+
+    inside : (how : Removal) → 15 ≤ x .len → drop (x .at + x .len) (written r (killPlace how x) (killBytes how x)) ≡ drop (x .at + x .len) r
+    inside Removal.Invalidate l = within Removal.Invalidate (omega arith) (omega arith)
+    inside Removal.Zeroise l = within Removal.Zeroise (omega arith) (omega (arith, kill-length Removal.Zeroise x l))
 
 pub invalidate-tail : (r : List ℕ) (a : List Record) (x : Record) (b : List Record) → records r ≡ a ++ x ∷ b
-    → drop (x .at + x .len) (invalidated r (x .at)) ≡ drop (x .at + x .len) r
-invalidate-tail r a x b e = let (l, f) = records-within r a x b e in invalidate-buries r x l f .after
+    → drop (x .at + x .len) (written r (killPlace Removal.Invalidate x) (killBytes Removal.Invalidate x)) ≡ drop (x .at + x .len) r
+invalidate-tail = removal-tail Removal.Invalidate
 
 pub zeroise-tail : (r : List ℕ) (a : List Record) (x : Record) (b : List Record) → records r ≡ a ++ x ∷ b
-    → drop (x .at + x .len) (zeroised r (x .at) (x .len)) ≡ drop (x .at + x .len) r
-zeroise-tail r a x b e = let (l, f) = records-within r a x b e in zeroise-buries r x l f .after
+    → drop (x .at + x .len) (written r (killPlace Removal.Zeroise x) (killBytes Removal.Zeroise x)) ≡ drop (x .at + x .len) r
+zeroise-tail = removal-tail Removal.Zeroise
 
 -- A record that append writes is live, and one without its top flag is not.
 pub written-is-live : (o key : ℕ) (value : List ℕ) → live (recordOf o key value) ≡ true

@@ -4,12 +4,12 @@ use mathlib.Core.Bool.{Bool, true, false, not, _&&_, _||_, cond}
 use mathlib.Core.List.{List, [], _∷_}
 use lib.Dec.{ltb, leb, eqb}
 use lib.ListN.{length, getD, take, drop}
-use Rattle.region.specs.Record.{recordLength}
+use Rattle.region.specs.Layout.{edition, headerLength, leastLength, recordLength}
 use Rattle.region.specs.declared.Record.{Record}
 use Rattle.region.specs.declared.Fault.the-variants.{UnsupportedVersion, CorruptData}
 use Rattle.region.specs.declared.Stop.{Stop}
 use Rattle.region.specs.declared.Stop.the-variants.{End, Bad}
-use Rattle.region.specs.declared.Step.{Step}
+use Rattle.region.specs.declared.Met.{Met}
 use Rattle.region.specs.declared.Want.{Want}
 use Rattle.region.specs.declared.Event.{Event}
 
@@ -20,7 +20,7 @@ bigEndianAt (suc k) region o = bigEndianAt k region o * 256 + getD region (o + k
 
 -- byte 1: low four the high bits of the length; byte 2: low eight bits of the length
 abbrev pub lengthAt : List ℕ → ℕ → ℕ
-lengthAt region o = getD region (o + 1) 0 % 16 * 256 + getD region (o + 2) 0
+lengthAt region o = getD region (o + 1) 0 % 16 * 256 + getD region (o + 2) 0 % 256
 
 -- byte 1: top four bits flags
 abbrev pub flagsAt : List ℕ → ℕ → ℕ
@@ -32,25 +32,25 @@ keyAt region o = bigEndianAt 8 region (o + 3)
 
 -- the record that the bytes at o say
 abbrev pub recordAt : List ℕ → ℕ → Record
-recordAt region o = record { at = o; len = lengthAt region o; flags = flagsAt region o; key = keyAt region o }
+recordAt region o = record { at = o; len = lengthAt region o; version = getD region o 0; flags = flagsAt region o; key = keyAt region o }
 
--- The five steps at a place, where so many bytes are left, the first of them is the version, and they say the record x.
+-- The five steps at a place, where so many bytes are left and they say the record x.
 -- 1. "Fewer than 15 bytes left: the walk ends."
 -- 2. "Byte o is 255: the walk ends, free place o."
 -- 3. "Byte o is not 1: bad, UnsupportedVersion."
 -- 4. "Length below 15, or past the region's end: bad, CorruptData."
 -- 5. "Otherwise a record."
-unfoldable pub stepOf : ℕ → ℕ → Record → Step
-stepOf left version x =
-    cond (ltb left 15) (Step.Stop (End (x .at)))
-    (cond (eqb version 255) (Step.Stop (End (x .at)))
-    (cond (not (eqb version 1)) (Step.Stop (Bad UnsupportedVersion (x .at)))
-    (cond (ltb (x .len) 15 || ltb left (x .len)) (Step.Stop (Bad CorruptData (x .at)))
-    (Step.Found x))))
+unfoldable pub metOf : ℕ → Record → Met
+metOf left x =
+    cond (ltb left (leastLength edition)) (Met.Stop (End (x .at)))
+    (cond (eqb (x .version) 255) (Met.Stop (End (x .at)))
+    (cond (not (eqb (x .version) edition)) (Met.Stop (Bad UnsupportedVersion (x .at)))
+    (cond (ltb (x .len) (leastLength (x .version)) || ltb left (x .len)) (Met.Stop (Bad CorruptData (x .at)))
+    (Met.Found x))))
 
 -- "At place o".
-abbrev pub stepAt : List ℕ → ℕ → Step
-stepAt region o = stepOf (length region - o) (getD region o 0) (recordAt region o)
+abbrev pub metAt : List ℕ → ℕ → Met
+metAt region o = metOf (length region - o) (recordAt region o)
 
 -- "It is live if the top bit of byte 1 is set." "The other three flag bits are not looked at".
 abbrev pub live : Record → Bool
@@ -70,7 +70,7 @@ passed x v = record { recs = x ∷ v .recs; stop = v .stop }
 -- "Go on at o + length." The walk from o on, in so many steps at most.
 unfoldable pub walkIn : ℕ → List ℕ → ℕ → View
 walkIn zero region o = stopped (End o)
-walkIn (suc n) region o = elim (stepAt region o) [ Step.Found x ↦ passed x (walkIn n region (o + x .len)) | Step.Stop s ↦ stopped s ]
+walkIn (suc n) region o = elim (metAt region o) [ Met.Found x ↦ passed x (walkIn n region (o + x .len)) | Met.Stop s ↦ stopped s ]
 
 -- The walk from o on. Each record has 15 bytes or more, so the bytes left are steps enough.
 unfoldable pub walkFrom : List ℕ → ℕ → View
@@ -87,17 +87,21 @@ ending region = walkFrom region 0 .stop
 abbrev pub bytesIn : List ℕ → Record → List ℕ
 bytesIn region x = take (x .len) (drop (x .at) region)
 
+-- "Value length is record length less 15."
+abbrev pub valueLength : Record → ℕ
+valueLength x = x .len - leastLength (x .version)
+
 -- byte 11 on: value; all but the last 4
 abbrev pub valueIn : List ℕ → Record → List ℕ
-valueIn region x = take (x .len - 15) (drop 11 (bytesIn region x))
+valueIn region x = take (valueLength x) (drop (headerLength (x .version)) (bytesIn region x))
 
 -- the live record of a key and a value whose bytes stand at o
 abbrev pub recordOf : ℕ → ℕ → List ℕ → Record
-recordOf o key value = record { at = o; len = recordLength value; flags = 8; key = key }
+recordOf o key value = record { at = o; len = recordLength (length value); version = edition; flags = 8; key = key }
 
 -- a record whose top flag is cleared
 abbrev pub dead : Record → Record
-dead x = record { at = x .at; len = x .len; flags = x .flags % 8; key = x .key }
+dead x = record { at = x .at; len = x .len; version = x .version; flags = x .flags % 8; key = x .key }
 
 -- a live record of the key, or any live record
 abbrev pub isWanted : Want → Record → Bool

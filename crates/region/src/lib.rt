@@ -1,20 +1,22 @@
 // One region of the flash: what its bytes say, and what is laid into them to add a record or to make one dead.
-mod pen;
+mod layout;
 mod walk;
 
-pub use pen::check_sum_fits;
-pub use pen::clear_live;
-pub use pen::lay_record;
-pub use pen::lay_zeros;
+pub use layout::check_sum_fits;
+pub use layout::lay_kill;
+pub use layout::lay_record;
+pub use layout::write_kill;
+pub use layout::write_record;
 pub use walk::find;
 pub use walk::look;
 ghost use mathlib.Core.Path.{_≡_};
 ghost use Rattle.region.specs.Walk.{live, isWanted, eventOf};
 
-// A record as its header says it: the place of its first byte in the region, its whole length, its flags and its key.
+// A record as its header says it: the place of its first byte in the region, its whole length, its version, its flags and its key.
 pub struct Record {
     pub at: usize,
     pub len: usize,
+    pub version: u8,
     pub flags: u8,
     pub key: u64,
 }
@@ -33,6 +35,8 @@ impl Record {
     pub const CHECK_SUM_LEN: usize = 4;
     // The length of a record whose value is empty.
     pub const LEAST: usize = 15;
+    // The longest that the length's 12 bits can say.
+    pub const MOST: usize = 4095;
     // The longest that is written: 4,095 is left out, as the crate's header leaves it out.
     pub const LARGEST: usize = 4094;
 
@@ -68,8 +72,8 @@ impl Stop {
     }
 }
 
-// What stands at one place of a region.
-pub enum Step {
+// What a walk meets at one place of a region.
+pub enum Met {
     Found(Record),
     Stop(Stop),
 }
@@ -96,4 +100,10 @@ pub enum Event {
     Live(Record),
     Bad(Fault, usize),
     End(usize),
+}
+
+// How a record is made dead: its top flag is cleared, or all of it but the header is.
+pub enum Removal {
+    Invalidate,
+    Zeroise,
 }

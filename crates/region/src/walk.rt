@@ -2,11 +2,11 @@
 ghost use mathlib.Core.Path.{_≡_};
 ghost use Prim.Native.Nat.{_+_, _≤_, _<_};
 ghost use lib.ListN.{length};
-ghost use Rattle.region.specs.Walk.{lengthAt, keyAt, stepAt, eventIn};
+ghost use Rattle.region.specs.Walk.{lengthAt, keyAt, metAt, eventIn};
 use crate::Event;
 use crate::Fault;
+use crate::Met;
 use crate::Record;
-use crate::Step;
 use crate::Stop;
 use crate::Want;
 
@@ -33,33 +33,34 @@ fn key_at(region: &[u8], at: usize) -> u64
 }
 
 // What stands at a place: the five steps, in their order.
-pub fn look(region: &[u8], at: usize) -> Step
+pub fn look(region: &[u8], at: usize) -> Met
     requires { ⌜ at ≤ length (now region) ⌝ }
-    ensures { λ r. ⌜ r ≡ stepAt (now (region .entry)) at ⌝ }
+    ensures { λ r. ⌜ r ≡ metAt (now (region .entry)) at ⌝ }
 {
     let left = region.len() - at;
     if left < Record::LEAST {
-        return Step::Stop(Stop::End(at));
+        return Met::Stop(Stop::End(at));
     }
     let version = region[at];
     if version == chip::BLANK {
-        return Step::Stop(Stop::End(at));
+        return Met::Stop(Stop::End(at));
     }
     if version != Record::VERSION {
-        return Step::Stop(Stop::Bad(Fault::UnsupportedVersion, at));
+        return Met::Stop(Stop::Bad(Fault::UnsupportedVersion, at));
     }
     let len = length_at(region, at);
     if len < Record::LEAST {
-        return Step::Stop(Stop::Bad(Fault::CorruptData, at));
+        return Met::Stop(Stop::Bad(Fault::CorruptData, at));
     }
     if left < len {
-        return Step::Stop(Stop::Bad(Fault::CorruptData, at));
+        return Met::Stop(Stop::Bad(Fault::CorruptData, at));
     }
     let flags = region[at + Record::LEN_OFFSET] / 16;
     let key = key_at(region, at);
-    Step::Found(Record {
+    Met::Found(Record {
         at,
         len,
+        version,
         flags,
         key,
     })
@@ -71,10 +72,10 @@ pub fn find(region: &[u8], want: Want) -> Event
 {
     let mut at: usize = 0;
     loop {
-        let step = look(region, at);
-        match step {
-            Step::Stop(stop) => break stop.event(),
-            Step::Found(rec) => {
+        let met = look(region, at);
+        match met {
+            Met::Stop(stop) => break stop.event(),
+            Met::Found(rec) => {
                 if want.by(rec) {
                     break Event::Live(rec);
                 }

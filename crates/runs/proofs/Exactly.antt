@@ -1,168 +1,196 @@
 -- Which refusals a step gives: 11 where the call does not fit, 12 where it fits and the host says that the service failed, else one of a lookup or none.
 -- Assumes nothing.
-use Prim.Native.Nat.{ℕ, _+_, _≤_}
+use Prim.Native.Nat.{ℕ, _+_, _*_, _≤_}
 use native.Mathlib.Omega.{arith}
-use mathlib.Core.Path.{_≡_, refl, sym, _∙_, ap, subst}
-use mathlib.Core.Bool.{Bool, true, false, cond, true≢false}
+use mathlib.Core.Path.{_≡_, refl, sym, _∙_}
+use mathlib.Core.Bool.{Bool, true, false, _&&_, cond, true≢false}
 use mathlib.Core.List.{List}
 use lib.Dec.{ltb}
 use lib.ListN.{length, getD}
+use borrow.Author.Tests.{eqb-true}
 use Rattle.probe.specs.Probe.{probes}
 use Rattle.region.specs.declared.Record.{Record}
 use Rattle.region.specs.declared.Fault.{Fault}
 use Rattle.region.specs.declared.Fault.the-variants.{UnsupportedVersion, CorruptData}
-use Rattle.region.specs.Record.{checkSumFits}
-use Rattle.region.specs.Walk.{bytesIn}
-use Rattle.lookup.specs.declared.Refusal.{Refusal}
+use Rattle.region.specs.Layout.{checkSumFits}
+use Rattle.region.specs.Walk.{bytesIn, valueLength}
+use Rattle.lookup.specs.declared.refusals.Refusal.{Refusal}
 use Rattle.lookup.specs.declared.Room.{Room}
 use Rattle.lookup.specs.declared.Looked.{Looked}
 use Rattle.lookup.specs.declared.Turn.{Turn}
 use Rattle.lookup.specs.Refusals.{number, refusalOf}
-use Rattle.lookup.specs.Lookup.{refusedBy, turnOf}
-use Rattle.store.specs.declared.Answer.{Answer}
-use Rattle.store.specs.declared.Answer.the-variants.{Complete, Refused}
-use Rattle.store.specs.declared.Verdict.{Verdict}
-use Rattle.store.specs.declared.Removal.{Removal}
-use Rattle.store.specs.Answer.{refusal}
-use Rattle.store.specs.Store.{valueLength, readAnswer, verdict, startsAnew}
-use Rattle.steps.specs.declared.Job.{Job}
-use Rattle.steps.specs.declared.Phase.{Phase}
-use Rattle.steps.specs.declared.Op.{Op}
-use Rattle.steps.specs.declared.Reply.{Reply}
-use Rattle.steps.specs.declared.Ask.{Ask}
-use Rattle.steps.specs.declared.Next.{Next}
+use Rattle.lookup.specs.Turns.{close, turnOf, refusedBy}
+use Rattle.plans.specs.declared.Answer.{Answer}
+use Rattle.plans.specs.declared.Answer.the-variants.{Complete, Freed, Refused}
+use Rattle.plans.specs.declared.Aim.{Aim}
+use Rattle.plans.specs.declared.Lent.{Lent}
+use Rattle.plans.specs.declared.Edit.{Edit}
+use Rattle.plans.specs.declared.First.{First}
+use Rattle.plans.specs.declared.Then.{Then}
+use Rattle.plans.specs.declared.Plan.{Plan}
+use Rattle.plans.specs.declared.Verdict.{Verdict}
+use Rattle.plans.specs.Answers.{refusal, startsAnew}
+use Rattle.plans.specs.Writes.{valueLent, bufferLent, first}
+use Rattle.plans.specs.Fits.{rests}
+use Rattle.plans.specs.Planning.{needOf, ends, anew, placePlan, plan}
+use Rattle.plans.specs.Sweeps.{verdict, sweptTo, sweepPlan}
+use Rattle.plans.proofs.Places.{by-place}
+use Rattle.plans.proofs.Shapes.{Shape, is-refused, is-given, is-removed, is-placed, is-anew, plan-shape}
+use Rattle.store.specs.Read.{readAnswer}
+use Rattle.running.specs.declared.Op.{Op}
+use Rattle.running.specs.declared.Reply.{Reply}
+use Rattle.running.specs.declared.Wait.{Wait}
+use Rattle.running.specs.declared.Request.{Request}
+use Rattle.running.specs.Waits.{withPlan, waitNext, waitFirst, waitOf, requestEdit, requestFor, requestOf}
+use Rattle.running.specs.Rule.{begins, replyFits, freshFits, Ruled}
+use Rattle.running.proofs.Rules.{plan-of, fits-ruled}
 use Rattle.steps.specs.declared.Stepped.{Stepped}
-use Rattle.steps.specs.Op.{needOf}
-use Rattle.steps.specs.Rule.{removes, phaseFits, replyFits}
-use Rattle.steps.specs.Step.{killAsk, askIn, askOf, placeEnds, appendEnds, lookupAnswer, lookupEnds, turnEnds, sweepEnds, advanceIn, nextOf, fitsHere, stepped}
-use Rattle.steps.proofs.Rules.{fits-kept}
-use Rattle.steps.proofs.After.{next-after}
-use Rattle.runs.specs.Host.{askRefusal}
-use Rattle.runs.proofs.Keeps.{opAt}
+use Rattle.steps.specs.Advance.{closes, turnedTo, advanceNext, advanceFirst, advance, givenBy, given}
+use Rattle.steps.specs.Step.{nextOp, fitsHere, stepped}
+use Rattle.runs.specs.Host.{requestRefusal}
 
--- The refusal that a phase stands for.
-abbrev phaseRefusal : Phase → ℕ
-phaseRefusal Phase.Fresh = 11
-phaseRefusal (Phase.Seek i seen) = 0
-phaseRefusal (Phase.Place r o) = 0
-phaseRefusal (Phase.Kill r x) = 0
-phaseRefusal (Phase.Sweep i freed) = 0
-phaseRefusal (Phase.Clear i freed) = 0
-phaseRefusal (Phase.Wipe i) = 0
-phaseRefusal (Phase.Ended answer) = refusal answer
+-- The refusal that a plan's end stands for, before its value is given and after.
+abbrev endRefusal : ℕ → Then → ℕ
+endRefusal gives (Then.Ends answer) = refusal answer
+endRefusal gives (Then.Seek aim i seen) = 0
+endRefusal gives (Then.Sweep r k) = 0
+endRefusal gives (Then.Gives r x again) = gives
 
--- An operation that keeps the rule asks for what its phase says: where a record is being made dead, its job removes.
-kill-asks : (job : Job) (s n r : ℕ) (x : Record) → phaseFits job s n (Phase.Kill r x) ≡ true → askRefusal (killAsk job s r x) ≡ 0
-kill-asks (Job.Remove Removal.Invalidate) s n r x e = refl
-kill-asks (Job.Remove Removal.Zeroise) s n r x e = refl
-kill-asks (Job.Get room) s n r x e = absurd (true≢false (sym e))
-kill-asks (Job.Append len) s n r x e = absurd (true≢false (sym e))
-kill-asks Job.Collect s n r x e = absurd (true≢false (sym e))
-kill-asks Job.Initialise s n r x e = absurd (true≢false (sym e))
-kill-asks Job.Anew s n r x e = absurd (true≢false (sym e))
+-- an operation that asks for a service refuses nothing, and one without an edit left what it ends with
+edit-none : (s len : ℕ) (e : Edit) → requestRefusal (requestEdit s len e) ≡ 0
+edit-none s len (Edit.Lay r o) = refl
+edit-none s len (Edit.Kill how r x) = refl
+edit-none s len (Edit.Erase r) = refl
 
-phase-asks : (p : Phase) (op : Op) → phaseFits (op .job) (op .s) (op .n) p ≡ true → askRefusal (askIn p op) ≡ phaseRefusal p
-unfolding askIn
-phase-asks Phase.Fresh op e = refl
-phase-asks (Phase.Seek i seen) op e = refl
-phase-asks (Phase.Place r o) op e = refl
-phase-asks (Phase.Kill r x) op e = kill-asks (op .job) (op .s) (op .n) r x e
-phase-asks (Phase.Sweep i freed) op e = refl
-phase-asks (Phase.Clear i freed) op e = refl
-phase-asks (Phase.Wipe i) op e = refl
-phase-asks (Phase.Ended answer) op e = refl
+request-low : (s len key n : ℕ) (f : First) (t : Then) → endRefusal 11 t ≤ 10 → requestRefusal (requestFor s len (waitFirst key n f t)) ≤ 10
+request-low s len key n (First.Do e) t h = omega (arith, edit-none s len e)
+request-low s len key n First.Nothing (Then.Ends answer) h = h
+request-low s len key n First.Nothing (Then.Seek aim i seen) h = h
+request-low s len key n First.Nothing (Then.Sweep r k) h = h
+request-low s len key n First.Nothing (Then.Gives r x again) h = h
 
--- What a lookup ends with is none of the stepped form's own refusals.
+-- What a lookup or a sweep ends with is none of the stepped form's own refusals.
 
 fault-low : (f : Fault) → number (refusalOf f) ≤ 10
 fault-low UnsupportedVersion = omega arith
 fault-low CorruptData = omega arith
+
+read-low : (region : List ℕ) (x : Record) (capacity : ℕ) → refusal (readAnswer region x capacity) ≤ 10
+read-low region x capacity = go (ltb capacity (valueLength x)) (checkSumFits (bytesIn region x))
+  where
+    go : (short good : Bool) → refusal (cond short (Refused (Refusal.BufferTooSmall (valueLength x))) (cond good (Complete (valueLength x)) (Refused Refusal.InvalidCheckSum))) ≤ 10
+    go true good = omega arith
+    go false true = omega arith
+    go false false = omega arith
+
+place-low : (place : Room) → endRefusal 0 (placePlan place .next) ≤ 10
+place-low Room.Nowhere = omega arith
+place-low (Room.At r o false) = omega arith
+place-low (Room.At r o true) = omega arith
 
 refused-low : (looked : Looked) → number (refusedBy looked) ≤ 10
 refused-low (Looked.Live r x) = omega arith
 refused-low (Looked.Bad f p) = fault-low f
 refused-low (Looked.Through seen) = omega arith
 
-read-low : (bytes : List ℕ) (room : ℕ) → refusal (readAnswer bytes room) ≤ 10
-read-low bytes room = go (ltb room (valueLength bytes)) (checkSumFits bytes)
+shape-low : {n : ℕ} {lent : Lent} {t : Bool} {looked : Looked} {p : Plan} → Shape n lent t looked p → endRefusal 0 (p .next) ≤ 10
+shape-low (is-refused {looked}) = refused-low looked
+shape-low (is-given h) = omega arith
+shape-low is-removed = omega arith
+shape-low (is-placed {seen}) = by-place (λ (p : Plan). endRefusal 0 (p .next) ≤ 10) place-low seen
+shape-low (is-anew h) = omega arith
+
+plan-low : (aim : Aim) (n : ℕ) (looked : Looked) → endRefusal 0 (plan aim n looked .next) ≤ 10
+plan-low aim n looked = shape-low (plan-shape n Lent.Nothing aim looked)
+
+turned-low : (aim : Aim) (n i : ℕ) (t : Turn) → endRefusal 0 (turnedTo aim n i (closes n i t) .next) ≤ 10
+turned-low aim n i (Turn.Stop looked) = plan-low aim n looked
+turned-low aim n i (Turn.More seen) = go (ltb (i + 1) n)
   where
-    go : (short good : Bool) → refusal (cond short (Refused (Refusal.BufferTooSmall (valueLength bytes))) (cond good (Complete (valueLength bytes)) (Refused Refusal.InvalidCheckSum))) ≤ 10
-    go true good = omega arith
-    go false true = omega arith
-    go false false = omega arith
+    go : (t : Bool) → endRefusal 0 (turnedTo aim n i (cond t (Turn.More seen) (Turn.Stop (close seen))) .next) ≤ 10
+    go true = omega arith
+    go false = plan-low aim n (close seen)
 
-answer-low : (region : List ℕ) (looked : Looked) → refusal (lookupAnswer region looked) ≤ 10
-answer-low region (Looked.Live r x) = read-low (bytesIn region x) 0
-answer-low region (Looked.Bad f p) = refused-low (Looked.Bad f p)
-answer-low region (Looked.Through seen) = refused-low (Looked.Through seen)
+swept-low : (s n r k : ℕ) → endRefusal 0 (sweptTo s n r k) ≤ 10
+swept-low s n r k = go (ltb r n)
+  where
+    go : (t : Bool) → endRefusal 0 (cond t (Then.Sweep r k) (Then.Ends (Freed (k * s)))) ≤ 10
+    go true = omega arith
+    go false = omega arith
 
--- A service that is done leads to a phase that asks for another, or to an end that is no refusal of the stepped form.
-cond-low : (t : Bool) (a b : Next) → phaseRefusal (a .op .phase) ≤ 10 → phaseRefusal (b .op .phase) ≤ 10 → phaseRefusal (cond t a b .op .phase) ≤ 10
-cond-low true a b f g = f
-cond-low false a b f g = g
+sweep-low : (s n r k : ℕ) (v : Verdict) → endRefusal 0 (sweepPlan s n r k v .next) ≤ 10
+sweep-low s n r k Verdict.Stands = swept-low s n (r + 1) k
+sweep-low s n r k Verdict.Erase = swept-low s n (r + 1) (k + 1)
+sweep-low s n r k (Verdict.Bad f p) = fault-low f
 
-module _ (s n key : ℕ) (p : Phase) where
-  place-low : (job : Job) (room : Room) → phaseRefusal (placeEnds (opAt job s n key p) room .op .phase) ≤ 10
-  place-low job Room.Nowhere = omega arith
-  place-low job (Room.At r o false) = omega arith
-  place-low job (Room.At r o true) = omega arith
+-- with its value given
+given-low : (n : ℕ) (lent : Lent) (region : List ℕ) (p : Plan) → endRefusal 0 (p .next) ≤ 10 → endRefusal 11 (given n lent region p .next) ≤ 10
+given-low n lent region p h = go (p .next) refl h
+  where
+    anew-low : (t : Bool) (answer : Answer) → refusal answer ≤ 10 → endRefusal 11 (cond t (anew n) (ends answer) .next) ≤ 10
+    anew-low true answer h = omega arith
+    anew-low false answer h = h
 
-  append-low : (job : Job) (looked : Looked) → phaseRefusal (appendEnds (opAt job s n key p) looked .op .phase) ≤ 10
-  append-low job (Looked.Live r x) = refused-low (Looked.Live r x)
-  append-low job (Looked.Bad f q) = refused-low (Looked.Bad f q)
-  append-low job (Looked.Through seen) = place-low job (seen .room)
+    go : (t : Then) → p .next ≡ t → endRefusal 0 t ≤ 10 → endRefusal 11 (givenBy n lent region p t .next) ≤ 10
+    go (Then.Ends answer) e h = rw e h
+    go (Then.Seek aim i seen) e h = rw e h
+    go (Then.Sweep r k) e h = rw e h
+    go (Then.Gives r x again) e h =
+        let answer : Answer = readAnswer region x (bufferLent lent) in
+        anew-low (again && startsAnew answer) answer (read-low region x (bufferLent lent))
 
-  lookup-low : (job : Job) (region : List ℕ) (looked : Looked) → phaseRefusal (lookupEnds job (opAt job s n key p) region looked .op .phase) ≤ 10
-  lookup-low (Job.Get room) region (Looked.Live r x) = read-low (bytesIn region x) room
-  lookup-low (Job.Get room) region (Looked.Bad f q) = refused-low (Looked.Bad f q)
-  lookup-low (Job.Get room) region (Looked.Through seen) = refused-low (Looked.Through seen)
-  lookup-low (Job.Append len) region looked = append-low (Job.Append len) looked
-  lookup-low (Job.Remove how) region (Looked.Live r x) = omega arith
-  lookup-low (Job.Remove how) region (Looked.Bad f q) = refused-low (Looked.Bad f q)
-  lookup-low (Job.Remove how) region (Looked.Through seen) = refused-low (Looked.Through seen)
-  lookup-low Job.Collect region looked = refused-low looked
-  lookup-low Job.Initialise region looked = cond-low (startsAnew (lookupAnswer region looked)) _ _ (omega arith) (answer-low region looked)
-  lookup-low Job.Anew region looked = append-low Job.Anew looked
+-- A service that is done leads to another, or to an end that is no refusal of the stepped form.
 
-  turn-low : (job : Job) (i : ℕ) (region : List ℕ) (t : Turn) → phaseRefusal (turnEnds (opAt job s n key p) i region t .op .phase) ≤ 10
-  turn-low job i region (Turn.Stop looked) = lookup-low job region looked
-  turn-low job i region (Turn.More seen) = cond-low (ltb (i + 1) n) _ _ (omega arith) (lookup-low job region (Looked.Through seen))
+-- an edit was done: "no refusal follows a write"
+write-low : (e : Edit) (t : Then) → rests (First.Do e) t ≡ true → endRefusal 0 t ≤ 10
+write-low e (Then.Ends answer) h = let z : refusal answer ≡ 0 = eqb-true _ _ h in omega arith
+write-low e (Then.Seek aim i seen) h = omega arith
+write-low e (Then.Sweep r k) h = omega arith
+write-low e (Then.Gives r x again) h = absurd (true≢false (sym h))
 
-  sweep-low : (job : Job) (i freed : ℕ) (v : Verdict) → phaseRefusal (sweepEnds (opAt job s n key p) i freed v .op .phase) ≤ 10
-  sweep-low job i freed Verdict.Stands = cond-low (ltb (i + 1) n) _ _ (omega arith) (omega arith)
-  sweep-low job i freed Verdict.Erase = omega arith
-  sweep-low job i freed (Verdict.Bad f o) = fault-low f
+-- a region was read
+next-low : (op : Op) (region : List ℕ) (t : Then) → rests First.Nothing t ≡ true → replyFits (waitNext (op .key) (op .n) t) Reply.Done ≡ true
+    → endRefusal 0 (advanceNext op region t .next) ≤ 10
+next-low op region (Then.Ends answer) c h = absurd (true≢false (sym h))
+next-low op region (Then.Seek aim i seen) c h =
+    turned-low aim (op .n) i (turnOf seen (op .key) (needOf aim (valueLent (op .lent))) (getD (probes (op .key) (op .n)) i 0) region)
+next-low op region (Then.Sweep r k) c h = sweep-low (op .s) (op .n) r k (verdict r region)
+next-low op region (Then.Gives r x again) c h = absurd (true≢false (sym c))
 
-  first-low : (job : Job) (region : List ℕ) → phaseRefusal (advanceIn Phase.Fresh (opAt job s n key p) region .op .phase) ≤ 10
-  unfolding advanceIn
-  first-low (Job.Get room) region = omega arith
-  first-low (Job.Append len) region = omega arith
-  first-low (Job.Remove how) region = omega arith
-  first-low Job.Collect region = omega arith
-  first-low Job.Initialise region = omega arith
-  first-low Job.Anew region = omega arith
+advance-low : (op : Op) (region : List ℕ) (f : First) → rests f (op .plan .next) ≡ true → replyFits (waitFirst (op .key) (op .n) f (op .plan .next)) Reply.Done ≡ true
+    → endRefusal 0 (advanceFirst op region f .next) ≤ 10
+advance-low op region (First.Do e) c h = write-low e (op .plan .next) c
+advance-low op region First.Nothing c h = next-low op region (op .plan .next) c h
 
-  advance-low : (job : Job) (region : List ℕ) (f : Phase) (y : Reply) → replyFits f y ≡ true → phaseRefusal (advanceIn f (opAt job s n key p) region .op .phase) ≤ 10
-  unfolding advanceIn
-  advance-low job region Phase.Fresh y h = first-low job region
-  advance-low job region (Phase.Seek i seen) y h = turn-low job i region (turnOf seen key (needOf job) (getD (probes key n) i 0) region)
-  advance-low job region (Phase.Place r o) y h = omega arith
-  advance-low job region (Phase.Kill r x) y h = omega arith
-  advance-low job region (Phase.Sweep i freed) y h = sweep-low job i freed (verdict region)
-  advance-low job region (Phase.Clear i freed) y h = cond-low (ltb (i + 1) n) _ _ (omega arith) (omega arith)
-  advance-low job region (Phase.Wipe i) y h = cond-low (ltb (i + 1) n) _ _ (omega arith) (omega arith)
-  advance-low job region (Phase.Ended answer) y h = absurd (true≢false (sym h))
+-- a reply to a service: the operation is not fresh
+not-fresh : (t : Bool) (w : Wait) (y : Reply) → begins y ≡ false → replyFits (cond t Wait.Begin w) y ≡ true → replyFits w y ≡ true
+not-fresh true w y b h = absurd (true≢false (sym h ∙ b))
+not-fresh false w y b h = h
 
--- "not ready" comes in a phase that asks for a service
-waits-low : (p : Phase) → replyFits p Reply.NotReady ≡ true → phaseRefusal p ≤ 10
-waits-low Phase.Fresh h = absurd (true≢false (sym h))
-waits-low (Phase.Seek i seen) h = omega arith
-waits-low (Phase.Place r o) h = omega arith
-waits-low (Phase.Kill r x) h = omega arith
-waits-low (Phase.Sweep i freed) h = omega arith
-waits-low (Phase.Clear i freed) h = omega arith
-waits-low (Phase.Wipe i) h = omega arith
-waits-low (Phase.Ended answer) h = absurd (true≢false (sym h))
+-- so "not ready" leaves the operation as it was
+pub still-there : (op : Op) → replyFits (waitOf op) Reply.NotReady ≡ true → withPlan op (op .plan) ≡ op
+still-there op h = go (op .fresh) refl h
+  where
+    go : (t : Bool) → op .fresh ≡ t → replyFits (cond t Wait.Begin (waitFirst (op .key) (op .n) (first (op .plan .edits)) (op .plan .next))) Reply.NotReady ≡ true → withPlan op (op .plan) ≡ op
+    go true e h = absurd (true≢false (sym h))
+    go false e h = λ i. record { s = op .s; n = op .n; key = op .key; lent = op .lent; fresh = sym e i; plan = op .plan }
+
+-- "not ready" comes where a service is asked for
+waits-low : (s len : ℕ) (w : Wait) → replyFits w Reply.NotReady ≡ true → requestRefusal (requestFor s len w) ≤ 10
+waits-low s len Wait.Begin h = absurd (true≢false (sym h))
+waits-low s len (Wait.Read r) h = omega arith
+waits-low s len (Wait.Edit e) h = omega (arith, edit-none s len e)
+waits-low s len (Wait.Over answer) h = absurd (true≢false (sym h))
+
+-- "begin" comes to a fresh operation alone, and one that keeps the rule has a service to ask for
+begins-low : (t : Bool) (s len key n : ℕ) (f : First) (next : Then) → freshFits t f next ≡ true → rests f next ≡ true
+    → replyFits (cond t Wait.Begin (waitFirst key n f next)) Reply.Begin ≡ true → requestRefusal (requestFor s len (waitFirst key n f next)) ≤ 10
+begins-low t s len key n (First.Do e) next h c w = omega (arith, edit-none s len e)
+begins-low true s len key n First.Nothing (Then.Ends answer) h c w = absurd (true≢false (sym h))
+begins-low false s len key n First.Nothing (Then.Ends answer) h c w = absurd (true≢false (sym w))
+begins-low t s len key n First.Nothing (Then.Seek aim i seen) h c w = omega arith
+begins-low t s len key n First.Nothing (Then.Sweep r k) h c w = omega arith
+begins-low t s len key n First.Nothing (Then.Gives r x again) h c w = absurd (true≢false (sym c))
 
 -- The refusal of a step whose call fits, by the reply: 12 with "failed", else none of 11 and 12.
 pub data Replied (refusal : ℕ) : Reply → Type 0 where
@@ -171,12 +199,19 @@ pub data Replied (refusal : ℕ) : Reply → Type 0 where
   done : refusal ≤ 10 → Replied refusal Reply.Done
   waiting : refusal ≤ 10 → Replied refusal Reply.NotReady
 
-next-replied : (op : Op) (y : Reply) (region : List ℕ) → replyFits (op .phase) y ≡ true → Replied (phaseRefusal (nextOf op y region .op .phase)) y
-unfolding nextOf
-next-replied op Reply.Begin region h = begun (advance-low (op .s) (op .n) (op .key) (op .phase) (op .job) region (op .phase) Reply.Begin h)
-next-replied op Reply.Done region h = done (advance-low (op .s) (op .n) (op .key) (op .phase) (op .job) region (op .phase) Reply.Done h)
-next-replied op Reply.NotReady region h = waiting (waits-low (op .phase) h)
-next-replied op Reply.Failed region h = failed refl
+next-replied : (op : Op) (y : Reply) (region : List ℕ) → Ruled op → replyFits (waitOf op) y ≡ true → Replied (requestRefusal (requestOf (nextOp op y region))) y
+next-replied op Reply.Begin region k h =
+    begun (begins-low (op .fresh) (op .s) (valueLent (op .lent)) (op .key) (op .n) (first (op .plan .edits)) (op .plan .next) (k .fresh-good) (plan-of op k .at-rest) h)
+next-replied op Reply.Done region k h =
+    let f = first (op .plan .edits) in
+    let w = not-fresh (op .fresh) (waitFirst (op .key) (op .n) f (op .plan .next)) Reply.Done refl h in
+    done
+    (request-low (op .s) (valueLent (op .lent)) (op .key) (op .n) (first (given (op .n) (op .lent) region (advance op region) .edits)) (given (op .n) (op .lent) region (advance op region) .next)
+    (given-low (op .n) (op .lent) region (advance op region) (advance-low op region f (plan-of op k .at-rest) w)))
+next-replied op Reply.NotReady region k h =
+    let w = waitFirst (op .key) (op .n) (first (op .plan .edits)) (op .plan .next) in
+    waiting (waits-low (op .s) (valueLent (op .lent)) w (not-fresh (op .fresh) w Reply.NotReady refl h))
+next-replied op Reply.Failed region k h = failed refl
 
 module _ (op : Op) (y : Reply) (region value buffer : List ℕ) where
   -- Any step: its call does not fit and it is BadCall, or it fits and the reply says which.
@@ -184,20 +219,15 @@ module _ (op : Op) (y : Reply) (region value buffer : List ℕ) where
     unfit : fitsHere op y region value buffer ≡ false → refusal ≡ 11 → Refuses refusal
     fit : fitsHere op y region value buffer ≡ true → Replied refusal y → Refuses refusal
 
-  fit-replied : fitsHere op y region value buffer ≡ true → Replied (askRefusal (askOf (nextOf op y region .op))) y
-  fit-replied h =
-      let (k, long, lent, apt) = fits-kept op y (length region) (length value) (length buffer) h in
-      let after = nextOf op y region .op in
-      let good = next-after op y value (length buffer) region k long lent .kept .phase-good in
-      subst (λ (r : ℕ). Replied r y) (sym (phase-asks (after .phase) after good)) (next-replied op y region apt)
-
-  pub step-refuses : Refuses (askRefusal (stepped op y region value buffer .ask))
+  pub step-refuses : Refuses (requestRefusal (stepped op y region value buffer .request))
   unfolding stepped
   step-refuses = go (fitsHere op y region value buffer) refl
     where
       go : (t : Bool) → fitsHere op y region value buffer ≡ t
-          → Refuses (askRefusal (cond {A = Stepped} t (record { op = nextOf op y region .op; ask = askOf (nextOf op y region .op) }) (record { op = op; ask = Ask.Answers (Refused Refusal.BadCall) }) .ask))
-      go true h = fit h (fit-replied h)
+          → Refuses
+          (requestRefusal
+          (cond {A = Stepped} t (record { op = nextOp op y region; request = requestOf (nextOp op y region) }) (record { op = op; request = Request.Answers (Refused Refusal.BadCall) }) .request))
+      go true h = let (k, _, _, apt) = fits-ruled op y (length region) (length value) (length buffer) h in fit h (next-replied op y region k apt)
       go false h = unfit h refl
 
   pub is-bad-call : {refusal : ℕ} → Refuses refusal → refusal ≡ 11 → fitsHere op y region value buffer ≡ false

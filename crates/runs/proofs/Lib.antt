@@ -1,8 +1,12 @@
-pub mod Keeps
+pub mod Starts
+pub mod Rests
+pub mod Comes
+pub mod Plans
+pub mod Calls
 pub mod Runs
-pub mod Waits
-pub mod Refuses
 pub mod Bounds
+pub mod Refuses
 pub mod Exactly
 pub mod Theorems
 pub mod Cases
+pub mod Asks

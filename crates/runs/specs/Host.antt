@@ -5,23 +5,23 @@ use mathlib.Core.List.{List, [], _∷_}
 use lib.ListN.{length, take, drop}
 use Rattle.chip.specs.Chip.{written}
 use Rattle.chip.specs.Geometry.{regionOf, eraseRegion}
-use Rattle.store.specs.declared.Answer.{Answer}
-use Rattle.store.specs.declared.Removal.{Removal}
-use Rattle.store.specs.Answer.{refusal}
-use Rattle.store.specs.Store.{getOf}
+use Rattle.region.specs.declared.Removal.{Removal}
+use Rattle.plans.specs.declared.Answer.{Answer}
+use Rattle.plans.specs.Answers.{refusal}
+use Rattle.store.specs.Read.{getOf}
 use Rattle.store.specs.Call.{Call, get, append, remove, collect, initialise}
-use Rattle.steps.specs.declared.Op.{Op}
-use Rattle.steps.specs.declared.Start.{Start}
-use Rattle.steps.specs.declared.Reply.{Reply}
-use Rattle.steps.specs.declared.Ask.{Ask}
-use Rattle.steps.specs.Op.{getStarted, appendStarted, removeStarted, collectStarted, initialiseStarted}
+use Rattle.running.specs.declared.Op.{Op}
+use Rattle.running.specs.declared.Start.{Start}
+use Rattle.running.specs.declared.Reply.{Reply}
+use Rattle.running.specs.declared.Request.{Request}
+use Rattle.running.specs.Starts.{getStarted, appendStarted, removeStarted, collectStarted, initialiseStarted}
 use Rattle.steps.specs.Step.{stepped, regionAfter, bufferAfter}
 
 -- The operation and what it last asked for, the image, and what is lent: the region buffer, the value and get's buffer.
 -- "the host lends the same buffers each time".
 pub record Host : Type 0 where
   pub op : Op
-  pub ask : Ask
+  pub request : Request
   pub image : List ℕ
   pub region : List ℕ
   pub value : List ℕ
@@ -29,46 +29,46 @@ pub record Host : Type 0 where
 
 -- "read a region into the buffer, write named bytes of the buffer at an image place, or erase a region": what a service leaves of the image
 -- of a chip with regions of s bytes, and of the region buffer. "Only its reads change the region buffer between steps."
-abbrev pub imageServed : ℕ → Ask → List ℕ → List ℕ → List ℕ
-imageServed s (Ask.Read r) region image = image
-imageServed s (Ask.Write a e p) region image = written image p (take (e - a) (drop a region))
-imageServed s (Ask.Erase r) region image = eraseRegion s r image
-imageServed s (Ask.Answers answer) region image = image
+abbrev pub imageServed : ℕ → Request → List ℕ → List ℕ → List ℕ
+imageServed s (Request.Read r) region image = image
+imageServed s (Request.Write a e p) region image = written image p (take (e - a) (drop a region))
+imageServed s (Request.Erase r) region image = eraseRegion s r image
+imageServed s (Request.Answers answer) region image = image
 
-abbrev pub regionServed : ℕ → Ask → List ℕ → List ℕ → List ℕ
-regionServed s (Ask.Read r) region image = regionOf s image r
-regionServed s (Ask.Write a e p) region image = region
-regionServed s (Ask.Erase r) region image = region
-regionServed s (Ask.Answers answer) region image = region
+abbrev pub regionServed : ℕ → Request → List ℕ → List ℕ → List ℕ
+regionServed s (Request.Read r) region image = regionOf s image r
+regionServed s (Request.Write a e p) region image = region
+regionServed s (Request.Erase r) region image = region
+regionServed s (Request.Answers answer) region image = region
 
 -- A request of a chip of n regions of s bytes lies in it: a region that is read or erased is one of the n, and what is written are bytes of the
 -- buffer that go to one region. "Bytes to write lie in the buffer at their own place in the region."
-pub data Inside (s n : ℕ) : Ask → Type 0 where
-  reads : {r : ℕ} → r < n → Inside s n (Ask.Read r)
-  writes : {a e : ℕ} (r : ℕ) → r < n → a ≤ e → e ≤ s → Inside s n (Ask.Write a e (r * s + a))
-  erases : {r : ℕ} → r < n → Inside s n (Ask.Erase r)
-  answers : {answer : Answer} → Inside s n (Ask.Answers answer)
+pub data Inside (s n : ℕ) : Request → Type 0 where
+  reads : {r : ℕ} → r < n → Inside s n (Request.Read r)
+  writes : {a e : ℕ} (r : ℕ) → r < n → a ≤ e → e ≤ s → Inside s n (Request.Write a e (r * s + a))
+  erases : {r : ℕ} → r < n → Inside s n (Request.Erase r)
+  answers : {answer : Answer} → Inside s n (Request.Answers answer)
 
 -- is a service asked for?
-abbrev pub asks : Ask → Bool
-asks (Ask.Read r) = true
-asks (Ask.Write a e p) = true
-asks (Ask.Erase r) = true
-asks (Ask.Answers answer) = false
+abbrev pub asks : Request → Bool
+asks (Request.Read r) = true
+asks (Request.Write a e p) = true
+asks (Request.Erase r) = true
+asks (Request.Answers answer) = false
 
 -- the number of the refusal that a step answers, 0 where it answers without one or asks for a service
-abbrev pub askRefusal : Ask → ℕ
-askRefusal (Ask.Read r) = 0
-askRefusal (Ask.Write a e p) = 0
-askRefusal (Ask.Erase r) = 0
-askRefusal (Ask.Answers answer) = refusal answer
+abbrev pub requestRefusal : Request → ℕ
+requestRefusal (Request.Read r) = 0
+requestRefusal (Request.Write a e p) = 0
+requestRefusal (Request.Erase r) = 0
+requestRefusal (Request.Answers answer) = refusal answer
 
 -- a step with a reply: the host lends what it has, and has what the step leaves
 abbrev pub told : Op → Reply → List ℕ → List ℕ → List ℕ → List ℕ → Host
 told op y image region value buffer =
     record {
       op = stepped op y region value buffer .op;
-      ask = stepped op y region value buffer .ask;
+      request = stepped op y region value buffer .request;
       image = image;
       region = regionAfter op y region value buffer;
       value = value;
@@ -84,26 +84,26 @@ waited h = told (h .op) Reply.NotReady (h .image) (h .region) (h .value) (h .buf
 
 -- the service that was asked for, and then a step with "done"
 abbrev pub served : ℕ → Host → Host
-served s h = told (h .op) Reply.Done (imageServed s (h .ask) (h .region) (h .image)) (regionServed s (h .ask) (h .region) (h .image)) (h .value) (h .buffer)
+served s h = told (h .op) Reply.Done (imageServed s (h .request) (h .region) (h .image)) (regionServed s (h .request) (h .region) (h .image)) (h .value) (h .buffer)
 
 -- where a run stands, and the services that it did
 pub record Run : Type 0 where
   pub host : Host
-  pub did : List Ask
+  pub did : List Request
 
-abbrev pub logged : Ask → Run → Run
-logged ask run = record { host = run .host; did = ask ∷ run .did }
+abbrev pub logged : Request → Run → Run
+logged request run = record { host = run .host; did = request ∷ run .did }
 
 -- one beat: nothing once the operation has answered; else a step with "not ready", or the service and a step with "done"
 abbrev pub beat : Bool → Bool → ℕ → Host → (Host → Run) → Run
 beat false ready s h rest = record { host = h; did = [] }
 beat true false s h rest = rest (waited h)
-beat true true s h rest = logged (h .ask) (rest (served s h))
+beat true true s h rest = logged (h .request) (rest (served s h))
 
 -- a run: for each beat, whether the host is ready
 unfoldable pub drive : ℕ → List Bool → Host → Run
 drive s [] h = record { host = h; did = [] }
-drive s (ready ∷ beats) h = beat (asks (h .ask)) ready s h (λ (g : Host). drive s beats g)
+drive s (ready ∷ beats) h = beat (asks (h .request)) ready s h (λ (g : Host). drive s beats g)
 
 abbrev pub oneIf : Bool → ℕ → ℕ
 oneIf true n = suc n

@@ -1,6 +1,6 @@
 // The store's calls, as a start of the stepped form and as one call.
-use steps::Start;
-use store::Answer;
+use plans::Answer;
+use running::Start;
 
 // A call with its key.
 pub enum Call {
@@ -13,14 +13,14 @@ pub enum Call {
 }
 
 // With the length of append's value and of get's buffer.
-pub fn start(call: Call, len: usize, room: usize) -> Start {
+pub fn start(call: Call, len: usize, capacity: usize) -> Start {
     match call {
-        Call::Get(key) => steps::start_get(64, 4, key, room),
-        Call::Append(key) => steps::start_append(64, 4, key, len),
-        Call::Invalidate(key) => steps::start_invalidate(64, 4, key),
-        Call::Zeroise(key) => steps::start_zeroise(64, 4, key),
-        Call::Collect => steps::start_collect(64, 4),
-        Call::Initialise(key) => steps::start_initialise(64, 4, key),
+        Call::Get(key) => running::start_get(64, 4, key, capacity),
+        Call::Append(key) => running::start_append(64, 4, key, len),
+        Call::Invalidate(key) => running::start_invalidate(64, 4, key),
+        Call::Zeroise(key) => running::start_zeroise(64, 4, key),
+        Call::Collect => running::start_collect(64, 4),
+        Call::Initialise(key) => running::start_initialise(64, 4, key),
     }
 }
 

@@ -1,9 +1,9 @@
 // The host of a running operation: it does the services on an image that lies in memory.
 use crate::numbers::Numbers;
 use crate::print;
-use steps::Ask;
-use steps::Op;
-use steps::Reply;
+use running::Op;
+use running::Reply;
+use running::Request;
 use steps::Stepped;
 
 // More services than any operation on 4 regions asks for, so that no service fails and each run ends.
@@ -38,6 +38,11 @@ impl Host {
     }
 }
 
+// The first step.
+pub fn begin(op: Op, region: &mut [u8; 64], value: &[u8], buffer: &mut [u8]) -> Stepped {
+    steps::step(op, Reply::Begin, region, value, buffer)
+}
+
 // From a request to the answer.
 pub fn drive(
     first: Stepped,
@@ -50,8 +55,8 @@ pub fn drive(
     let mut now = first;
     let mut served: usize = 0;
     while served < MANY {
-        let ask = now.ask;
-        if let Ask::Answers(_) = ask {
+        let request = now.request;
+        if let Request::Answers(_) = request {
             return now;
         }
         now = beat(now, image, region, value, buffer, host, served);
@@ -70,22 +75,22 @@ pub fn beat(
     host: Host,
     served: usize,
 ) -> Stepped {
-    let ask = now.ask;
-    print::request(ask);
+    let request = now.request;
+    print::request(request);
     let op = wait(now, region, value, buffer, host.waits);
     if served == host.fails {
         report::line(b" (fails)");
         return steps::step(op, Reply::Failed, region, value, buffer);
     }
-    let reply = serve(ask, image, region);
+    let reply = serve(request, image, region);
     report::line(b"");
     steps::step(op, reply, region, value, buffer)
 }
 
 // A host that is not ready hears its request again, each time.
 fn wait(now: Stepped, region: &mut [u8; 64], value: &[u8], buffer: &mut [u8], waits: usize) -> Op {
-    let ask = now.ask;
-    let asked = Numbers::of(ask);
+    let request = now.request;
+    let asked = Numbers::of(request);
     let mut op = now.op;
     let mut i: usize = 0;
     while i < waits {
@@ -99,19 +104,23 @@ fn wait(now: Stepped, region: &mut [u8; 64], value: &[u8], buffer: &mut [u8], wa
 fn not_ready(op: Op, asked: Numbers, region: &mut [u8; 64], value: &[u8], buffer: &mut [u8]) -> Op {
     report::text(b" (not ready)");
     let again = steps::step(op, Reply::NotReady, region, value, buffer);
-    let ask = again.ask;
-    if !asked.same(Numbers::of(ask)) {
+    let request = again.request;
+    if !asked.same(Numbers::of(request)) {
         report::text(b" (another request)");
     }
     again.op
 }
 
-fn serve(ask: Ask, image: &mut [u8; 256], region: &mut [u8; 64]) -> Reply {
-    match ask {
-        Ask::Read(r) => read(r, image, region),
-        Ask::Write(a, e, at) => write(region, a, e, image, at),
-        Ask::Erase(r) => erase(r, image),
-        Ask::Answers(_) => outside(),
+fn serve(request: Request, image: &mut [u8; 256], region: &mut [u8; 64]) -> Reply {
+    match request {
+        Request::Read { region: r } => read(r, image, region),
+        Request::Write {
+            from: a,
+            to: e,
+            place: at,
+        } => write(region, a, e, image, at),
+        Request::Erase { region: r } => erase(r, image),
+        Request::Answers(_) => outside(),
     }
 }
 

@@ -1,7 +1,7 @@
 // Requests and answers in numbers, to compare two of them.
 use lookup::Refusal;
-use steps::Ask;
-use store::Answer;
+use plans::Answer;
+use running::Request;
 
 pub struct Numbers {
     pub kind: usize,
@@ -15,12 +15,16 @@ impl Numbers {
         Numbers { kind, a, b, c }
     }
 
-    pub fn of(ask: Ask) -> Numbers {
-        match ask {
-            Ask::Read(r) => Numbers::new(0, r, 0, 0),
-            Ask::Write(a, e, at) => Numbers::new(1, a, e, at),
-            Ask::Erase(r) => Numbers::new(2, r, 0, 0),
-            Ask::Answers(answer) => Numbers::of_answer(answer),
+    pub fn of(request: Request) -> Numbers {
+        match request {
+            Request::Read { region: r } => Numbers::new(0, r, 0, 0),
+            Request::Write {
+                from: a,
+                to: e,
+                place: at,
+            } => Numbers::new(1, a, e, at),
+            Request::Erase { region: r } => Numbers::new(2, r, 0, 0),
+            Request::Answers(answer) => Numbers::of_answer(answer),
         }
     }
 

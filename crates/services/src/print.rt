@@ -1,16 +1,20 @@
 // The requests that are written.
 use report::number;
 use report::text;
-use steps::Ask;
+use running::Request;
 
 // A request, whose line is not ended yet.
-pub fn request(ask: Ask) {
-    match ask {
-        Ask::Read(r) => {
+pub fn request(asked: Request) {
+    match asked {
+        Request::Read { region: r } => {
             text(b"  read");
             number(r);
         }
-        Ask::Write(a, e, at) => {
+        Request::Write {
+            from: a,
+            to: e,
+            place: at,
+        } => {
             text(b"  write");
             number(a);
             text(b"..");
@@ -18,23 +22,29 @@ pub fn request(ask: Ask) {
             text(b" at");
             number(at);
         }
-        Ask::Erase(r) => {
+        Request::Erase { region: r } => {
             text(b"  erase");
             number(r);
         }
-        Ask::Answers(_) => {
+        Request::Answers(_) => {
             text(b"  nothing");
         }
     }
 }
 
 // A line with what a step asks for or answers.
-pub fn outcome(what: &[u8], ask: Ask) {
-    match ask {
-        Ask::Answers(answer) => report::answer(what, answer),
-        Ask::Read(_) | Ask::Write(_, _, _) | Ask::Erase(_) => {
+pub fn outcome(what: &[u8], asked: Request) {
+    match asked {
+        Request::Answers(answer) => report::answer(what, answer),
+        Request::Read { region: _ }
+        | Request::Write {
+            from: _,
+            to: _,
+            place: _,
+        }
+        | Request::Erase { region: _ } => {
             text(what);
-            request(ask);
+            request(asked);
             text(b"\n");
         }
     }

@@ -1,5 +1,2 @@
-pub mod Fits
-pub mod Rules
-pub mod After
-pub mod Lends
-pub mod Advances
+pub mod Keeps
+pub mod Others

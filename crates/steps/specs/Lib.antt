@@ -1,3 +1,3 @@
-pub mod Op
-pub mod Rule
+pub mod Advance
+pub mod Lend
 pub mod Step

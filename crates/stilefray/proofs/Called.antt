@@ -4,16 +4,17 @@ use Prim.Native.Nat.{ℕ}
 use mathlib.Core.Path.{_≡_, refl, sym, ap}
 use mathlib.Core.Bool.{true, false}
 use mathlib.Core.List.{List}
-use Rattle.steps.specs.declared.Op.{Op}
-use Rattle.steps.specs.declared.Reply.{Reply}
-use Rattle.steps.specs.Step.{askOf, nextOf, fitsHere, stepped, regionAfter, bufferAfter}
-use Rattle.stilefray.specs.declared.COperation.{COperation}
-use Rattle.stilefray.specs.declared.CStepped.{CStepped}
-use Rattle.stilefray.specs.declared.running.KnownOp.{KnownOp}
-use Rattle.stilefray.specs.declared.running.KnownReply.{KnownReply}
-use Rattle.stilefray.specs.Running.{packed, unpacked, knownReply}
-use Rattle.stilefray.proofs.Packs.{own}
-use Rattle.stilefray.specs.Calls.{badCall, packedStep, onKnown, stepNumbers, stepRegion, stepBuffer}
+use Rattle.running.specs.declared.Op.{Op}
+use Rattle.running.specs.declared.Reply.{Reply}
+use Rattle.running.specs.Waits.{withPlan, requestOf}
+use Rattle.steps.specs.Step.{fitsHere, stepped, regionAfter, bufferAfter}
+use Rattle.numbers.specs.declared.COperation.{COperation}
+use Rattle.numbers.specs.declared.CStepped.{CStepped}
+use Rattle.numbers.specs.declared.unpacks.KnownReply.{KnownReply}
+use Rattle.numbers.specs.Packs.{packed}
+use Rattle.numbers.specs.Unpacks.{KnownOp, unpacked, knownReply}
+use Rattle.stilefray.specs.Stepped.{badCall, packedStep, onKnown, stepNumbers, stepRegion, stepBuffer}
+use Rattle.numbers.proofs.Own.{own}
 
 -- What a call hands back, and what it leaves in region and buffer.
 abbrev pub Steps : COperation → ℕ → List ℕ → List ℕ → List ℕ → CStepped → List ℕ → List ℕ → Type 0
@@ -53,9 +54,9 @@ pub misfits : (y : ℕ) (op : Op) (said : Reply) (region value buffer : List ℕ
 unfolding stepped regionAfter bufferAfter
 misfits y op said region value buffer g h = rw g h
 
--- "Not ready" repeats the request: the operation stays, and nothing is done to the buffers.
+-- "Not ready" repeats the request: the operation stays, but that it has begun, and nothing is done to the buffers.
 pub waits : (o : COperation) (y : ℕ) (region value buffer : List ℕ) (op : Op)
     → unpacked o ≡ KnownOp.Known op → knownReply y ≡ KnownReply.Known Reply.NotReady → fitsHere op Reply.NotReady region value buffer ≡ true
-    → Steps o y region value buffer (packedStep (record { op = op; ask = askOf op })) region buffer
-unfolding stepNumbers stepRegion stepBuffer stepped regionAfter bufferAfter nextOf
+    → Steps o y region value buffer (packedStep (record { op = withPlan op (op .plan); request = requestOf (withPlan op (op .plan)) })) region buffer
+unfolding stepNumbers stepRegion stepBuffer stepped regionAfter bufferAfter
 waits o y region value buffer op e f g = rw (e, f, g) (refl, refl, refl)

@@ -1,3 +1,4 @@
 pub mod Called
-pub mod Packs
+pub mod Few
+pub mod Looks
 pub mod Theorems

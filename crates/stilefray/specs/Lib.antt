@@ -1,3 +1,1 @@
-pub mod Numbers
-pub mod Running
-pub mod Calls
+pub mod Stepped

@@ -1,10 +1,11 @@
 // The one-call form: the image lies in memory.
 ghost use mathlib.Core.Path.{_≡_};
-ghost use Rattle.store.specs.declared.Removal.{Removal};
-ghost use Rattle.store.specs.Store.{getOf, appendOf, removeOf, collectOf, initialiseOf};
-ghost use Rattle.stilefray.specs.Numbers.{answerNumbers};
-use crate::CAnswer;
-use crate::numbers::answer_numbers;
+ghost use Rattle.region.specs.declared.Removal.{Removal};
+ghost use Rattle.store.specs.Read.{getOf};
+ghost use Rattle.store.specs.Write.{appendOf, removeOf, initialiseOf};
+ghost use Rattle.store.specs.Collect.{collectOf};
+ghost use Rattle.numbers.specs.Answers.{answerNumbers};
+use numbers::CAnswer;
 
 #[no_mangle]
 pub extern "C" fn stilefray_get_key(
@@ -16,7 +17,7 @@ pub extern "C" fn stilefray_get_key(
 ) -> CAnswer
     ensures { λ r. ⌜ (r ≡ answerNumbers (getOf (now (image .entry)) s n key (now (buffer .entry)) .answer)) × (now (buffer .exit) ≡ getOf (now (image .entry)) s n key (now (buffer .entry)) .buffer) ⌝ }
 {
-    answer_numbers(store::get_key(image, s, n, key, buffer))
+    numbers::answer_numbers(store::get_key(image, s, n, key, buffer))
 }
 
 #[no_mangle]
@@ -29,7 +30,7 @@ pub extern "C" fn stilefray_append_key(
 ) -> CAnswer
     ensures { λ r. ⌜ (r ≡ answerNumbers (appendOf (now (image .entry)) s n key (now (value .entry)) .answer)) × (now (image .exit) ≡ appendOf (now (image .entry)) s n key (now (value .entry)) .image) ⌝ }
 {
-    answer_numbers(store::append_key(image, s, n, key, value))
+    numbers::answer_numbers(store::append_key(image, s, n, key, value))
 }
 
 #[no_mangle]
@@ -41,26 +42,26 @@ pub extern "C" fn stilefray_invalidate_key(
 ) -> CAnswer
     ensures { λ r. ⌜ (r ≡ answerNumbers (removeOf Removal.Invalidate (now (image .entry)) s n key .answer)) × (now (image .exit) ≡ removeOf Removal.Invalidate (now (image .entry)) s n key .image) ⌝ }
 {
-    answer_numbers(store::invalidate_key(image, s, n, key))
+    numbers::answer_numbers(store::invalidate_key(image, s, n, key))
 }
 
 #[no_mangle]
 pub extern "C" fn stilefray_zeroise_key(image: &mut [u8], s: usize, n: usize, key: u64) -> CAnswer
     ensures { λ r. ⌜ (r ≡ answerNumbers (removeOf Removal.Zeroise (now (image .entry)) s n key .answer)) × (now (image .exit) ≡ removeOf Removal.Zeroise (now (image .entry)) s n key .image) ⌝ }
 {
-    answer_numbers(store::zeroise_key(image, s, n, key))
+    numbers::answer_numbers(store::zeroise_key(image, s, n, key))
 }
 
 #[no_mangle]
 pub extern "C" fn stilefray_garbage_collect(image: &mut [u8], s: usize, n: usize) -> CAnswer
     ensures { λ r. ⌜ (r ≡ answerNumbers (collectOf (now (image .entry)) s n .answer)) × (now (image .exit) ≡ collectOf (now (image .entry)) s n .image) ⌝ }
 {
-    answer_numbers(store::garbage_collect(image, s, n))
+    numbers::answer_numbers(store::garbage_collect(image, s, n))
 }
 
 #[no_mangle]
 pub extern "C" fn stilefray_initialise(image: &mut [u8], s: usize, n: usize, key: u64) -> CAnswer
     ensures { λ r. ⌜ (r ≡ answerNumbers (initialiseOf (now (image .entry)) s n key .answer)) × (now (image .exit) ≡ initialiseOf (now (image .entry)) s n key .image) ⌝ }
 {
-    answer_numbers(store::initialise(image, s, n, key))
+    numbers::answer_numbers(store::initialise(image, s, n, key))
 }

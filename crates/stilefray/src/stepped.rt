@@ -1,63 +1,57 @@
 // The stepped form: one flash service at a time.
 ghost use mathlib.Core.Path.{_≡_};
-ghost use Rattle.store.specs.declared.Removal.{Removal};
-ghost use Rattle.steps.specs.Op.{getStarted, appendStarted, removeStarted, collectStarted, initialiseStarted};
-ghost use Rattle.stilefray.specs.Running.{startNumbers};
-ghost use Rattle.stilefray.specs.Calls.{badCall, stepNumbers, stepRegion, stepBuffer};
-use crate::COperation;
-use crate::CStart;
-use crate::CStepped;
-use crate::numbers::request_numbers;
-use crate::running::KnownOp;
-use crate::running::KnownReply;
-use crate::running::known_reply;
-use crate::running::pack;
-use crate::running::pack_start;
-use crate::running::unpack;
+ghost use Rattle.region.specs.declared.Removal.{Removal};
+ghost use Rattle.running.specs.Starts.{getStarted, appendStarted, removeStarted, collectStarted, initialiseStarted};
+ghost use Rattle.numbers.specs.Packs.{startNumbers};
+ghost use Rattle.stilefray.specs.Stepped.{badCall, stepNumbers, stepRegion, stepBuffer};
 use lookup::Refusal;
-use steps::Ask;
-use store::Answer;
+use numbers::COperation;
+use numbers::CStart;
+use numbers::CStepped;
+use numbers::KnownReply;
+use plans::Answer;
+use running::Request;
 
 #[no_mangle]
-pub extern "C" fn stilefray_start_get(s: usize, n: usize, key: u64, room: usize) -> CStart
-    ensures { λ r. ⌜ r ≡ startNumbers (getStarted s n key room) ⌝ }
+pub extern "C" fn stilefray_start_get(s: usize, n: usize, key: u64, capacity: usize) -> CStart
+    ensures { λ r. ⌜ r ≡ startNumbers (getStarted s n key capacity) ⌝ }
 {
-    pack_start(steps::start_get(s, n, key, room))
+    numbers::pack_start(running::start_get(s, n, key, capacity))
 }
 
 #[no_mangle]
 pub extern "C" fn stilefray_start_append(s: usize, n: usize, key: u64, len: usize) -> CStart
     ensures { λ r. ⌜ r ≡ startNumbers (appendStarted s n key len) ⌝ }
 {
-    pack_start(steps::start_append(s, n, key, len))
+    numbers::pack_start(running::start_append(s, n, key, len))
 }
 
 #[no_mangle]
 pub extern "C" fn stilefray_start_invalidate(s: usize, n: usize, key: u64) -> CStart
     ensures { λ r. ⌜ r ≡ startNumbers (removeStarted Removal.Invalidate s n key) ⌝ }
 {
-    pack_start(steps::start_invalidate(s, n, key))
+    numbers::pack_start(running::start_invalidate(s, n, key))
 }
 
 #[no_mangle]
 pub extern "C" fn stilefray_start_zeroise(s: usize, n: usize, key: u64) -> CStart
     ensures { λ r. ⌜ r ≡ startNumbers (removeStarted Removal.Zeroise s n key) ⌝ }
 {
-    pack_start(steps::start_zeroise(s, n, key))
+    numbers::pack_start(running::start_zeroise(s, n, key))
 }
 
 #[no_mangle]
 pub extern "C" fn stilefray_start_collect(s: usize, n: usize) -> CStart
     ensures { λ r. ⌜ r ≡ startNumbers (collectStarted s n) ⌝ }
 {
-    pack_start(steps::start_collect(s, n))
+    numbers::pack_start(running::start_collect(s, n))
 }
 
 #[no_mangle]
 pub extern "C" fn stilefray_start_initialise(s: usize, n: usize, key: u64) -> CStart
     ensures { λ r. ⌜ r ≡ startNumbers (initialiseStarted s n key) ⌝ }
 {
-    pack_start(steps::start_initialise(s, n, key))
+    numbers::pack_start(running::start_initialise(s, n, key))
 }
 
 // Numbers that stand for nothing: BadCall, and they stay as they are.
@@ -66,7 +60,7 @@ fn bad_call(op: COperation) -> CStepped
 {
     CStepped {
         op,
-        request: request_numbers(Ask::Answers(Answer::Refused(Refusal::BadCall))),
+        request: numbers::request_numbers(Request::Answers(Answer::Refused(Refusal::BadCall))),
     }
 }
 
@@ -82,19 +76,18 @@ pub extern "C" fn stilefray_step(
         × (now (region .exit) ≡ stepRegion op reply (now (region .entry)) (now (value .entry)) (now (buffer .entry)))
         × (now (buffer .exit) ≡ stepBuffer op reply (now (region .entry)) (now (value .entry)) (now (buffer .entry))) ⌝ }
 {
-    let running = unpack(op);
-    let KnownOp::Known(known) = running else {
+    if !numbers::stands(op) {
         return bad_call(op);
-    };
-    let said = known_reply(reply);
+    }
+    let said = numbers::known_reply(reply);
     let KnownReply::Known(told) = said else {
         return bad_call(op);
     };
-    let stepped = steps::step(known, told, region, value, buffer);
+    let stepped = steps::step(numbers::read_as(op), told, region, value, buffer);
     let after = stepped.op;
-    let ask = stepped.ask;
+    let request = stepped.request;
     CStepped {
-        op: pack(after),
-        request: request_numbers(ask),
+        op: numbers::pack(after),
+        request: numbers::request_numbers(request),
     }
 }

@@ -1,63 +1,85 @@
--- What the operations make of a lookup's end, where the code leaves early.
+-- The plan that an operation makes of its lookup's end lies in the image.
 -- Assumes nothing.
-use Prim.Native.Nat.{ℕ, _+_, _-_, _*_, _≤_}
+use Prim.Native.Nat.{ℕ, _+_, _≤_}
 use native.Mathlib.Omega.{arith}
-use mathlib.Core.Path.{_≡_, refl, sym, _∙_, ap}
-use mathlib.Core.Bool.{true}
+use mathlib.Core.Path.{_≡_, refl, sym, _∙_}
+use mathlib.Core.Bool.{Bool, true, false}
 use mathlib.Core.List.{List, [], _∷_}
 use mathlib.Core.Logic.{⊎-elim}
-use lib.ListN.{length, take, drop}
-use lib.Seq.{sets}
-use borrow.Rule.Slice.PartMut.{putMid}
-use borrow.Author.Tests.{eqb-false}
+use lib.ListN.{length}
+use borrow.Author.Tests.{lt-ltb, eqb-false}
 use types.Run.{OneOf}
 use denote.Enum.Declared.{tagOf}
-use Rattle.chip.specs.Geometry.{regionOf}
-use Rattle.chip.specs.Chip.{Bytes, written, isBlank}
-use Rattle.chip.proofs.Runs.{written-run, run-back}
-use Rattle.chip.proofs.Image.{part-region}
-use Rattle.chip.proofs.Theorems.{over-blank, clears-flag}
+use Rattle.chip.specs.Geometry.{Fits}
+use Rattle.probe.specs.Probe.{probes}
 use Rattle.region.specs.declared.Record.{Record}
-use Rattle.region.specs.Record.{recordLength, recordBytes}
-use Rattle.region.proofs.Bytes.{length-record, record-bytes}
-use Rattle.region.proofs.Kill.{length-zero, zeroise-stores}
-use Rattle.store.specs.declared.Removal.{Removal}
+use Rattle.region.specs.declared.Removal.{Removal}
+use Rattle.region.specs.Layout.{recordLength, killPlace, killBytes}
+use Rattle.region.proofs.Theorems.{kill-length}
+use Rattle.lookup.specs.declared.refusals.Refusal.{Refusal}
+use Rattle.lookup.specs.declared.refusals.Check.{Check}
+use Rattle.lookup.specs.declared.Need.{Need}
+use Rattle.lookup.specs.declared.Room.{Room}
 use Rattle.lookup.specs.declared.Looked.{Looked}
-use Rattle.lookup.proofs.Looked.{the-type}
-use Rattle.lookup.specs.Lookup.{refusedBy}
-use Rattle.store.specs.Store.{refused, appendBy, removalPlace, removalBytes}
-use Rattle.lookup.proofs.Scan.{through}
+use Rattle.lookup.specs.declared.Hit.{Hit}
+use Rattle.lookup.specs.Refusals.{firstRefusal}
+use Rattle.lookup.specs.Turns.{lookupIn, hitOf}
+use Rattle.lookup.proofs.Scan.{fine}
+use Rattle.lookup.proofs.Ends.{Placed, held, placed-at}
+use Rattle.plans.specs.declared.Answer.the-variants.{Refused}
+use Rattle.plans.specs.declared.Then.{Then}
+use Rattle.plans.specs.declared.Plan.{Plan}
+use Rattle.plans.specs.Fits.{editsFit}
+use Rattle.plans.specs.Planning.{placePlan, appendPlan, removePlan}
+use Rattle.plans.proofs.Then.{the-type}
+use Rattle.plans.proofs.Facts.{join, place-fits, record-fits}
+use Rattle.store.specs.Write.{endOf, carried, appendOf, removeOf}
 
--- an end that is not through all regions is append's
-pub not-through-append : (s : ℕ) (image : List ℕ) (key : ℕ) (value : List ℕ) (looked : Looked) → OneOf (0 ∷ 1 ∷ []) (tagOf the-type looked)
-    → appendBy s image key value looked ≡ refused (refusedBy looked) image
-not-through-append s image key value (Looked.Live r x) k = refl
-not-through-append s image key value (Looked.Bad f p) k = refl
-not-through-append s image key value (Looked.Through seen) k = absurd (⊎-elim (eqb-false 2 0 refl) (eqb-false 2 1 refl) k)
+-- A removal's bytes lie within the record.
+pub removal-fits : (how : Removal) (x : Record) → 15 ≤ x .len → killPlace how x + length (killBytes how x) ≤ x .at + x .len
+removal-fits Removal.Invalidate x l = omega arith
+removal-fits Removal.Zeroise x l = omega (arith, kill-length Removal.Zeroise x l)
 
--- What is laid into a lent region, where a write leaves the same there: the image is as the write leaves it.
-pub laid-written : (image : List ℕ) (s r o : ℕ) (b region′ : List ℕ) → o + length b ≤ s
-    → region′ ≡ sets (take (r * s + s - r * s) (drop (r * s) image)) o b → sets (regionOf s image r) o b ≡ written (regionOf s image r) o b
-    → putMid (r * s) (r * s + s - r * s) image region′ ≡ written image (r * s + o) b
-laid-written image s r o b region′ h e w =
-    let n : r * s + s - r * s ≡ s = omega arith in
-    let f : region′ ≡ written (regionOf s image r) o b = e ∙ ap (λ (l : List ℕ). sets l o b) (part-region s image r) ∙ w in
-    (λ i. putMid (r * s) (n i) image (f i)) ∙ run-back written-run image (r * s) s o b h
+-- A plan that does not end with an answer.
+pub not-end : (next : Then) → OneOf (1 ∷ 2 ∷ 3 ∷ []) (tagOf the-type next) → Refused Refusal.BadCall ≡ endOf next
+not-end (Then.Ends answer) k = absurd (⊎-elim (eqb-false 0 1 refl) (⊎-elim (eqb-false 0 2 refl) (eqb-false 0 3 refl)) k)
+not-end (Then.Seek aim i seen) k = refl
+not-end (Then.Sweep r k) h = refl
+not-end (Then.Gives r x again) k = refl
 
--- The removals' bytes lie within the record, and over the record a write stores them.
-pub removal-fits : (how : Removal) (region : List ℕ) (x : Record) → 15 ≤ x .len → x .at + x .len ≤ length region → removalPlace how x + length (removalBytes how region x) ≤ x .at + x .len
-removal-fits Removal.Invalidate region x l f = omega arith
-removal-fits Removal.Zeroise region x l f = omega (arith, length-zero region (x .at) (x .len) l f)
+-- Append: the first check lets the call pass, and the lookup's end makes the plan.
+module _ (image : List ℕ) (s n key : ℕ) (value : List ℕ) {check : Check} (checked : check ≡ firstRefusal image s n key (length value)) (passed : check ≡ Check.Fine) where
+  pub append-allowed : Fits image s n × (length value ≤ 4079)
+  append-allowed = let (f, _, short) = fine image s n key (length value) (sym checked ∙ passed) in (f, short)
 
-pub removal-stores : (how : Removal) (region : List ℕ) (x : Record) → 15 ≤ x .len → x .at + x .len ≤ length region
-    → sets region (removalPlace how x) (removalBytes how region x) ≡ written region (removalPlace how x) (removalBytes how region x)
-removal-stores Removal.Invalidate region x l f = sym (clears-flag region (x .at + 1))
-removal-stores Removal.Zeroise region x l f = sym (zeroise-stores region (x .at) (x .len) l f)
+  module _ {looked : Looked} {p : Plan} (looks : looked ≡ lookupIn key (Need.Room (recordLength (length value))) s image (probes key n)) (planned : p ≡ appendPlan looked) where
+    pub append-is : carried s key value image p ≡ appendOf image s n key value
+    unfolding appendOf
+    append-is = rw (planned, looks, sym checked ∙ passed)
 
-pub append-stores : (region : List ℕ) (o key : ℕ) (value : List ℕ) → Bytes value → length value ≤ 4079 → o + recordLength value ≤ length region
-    → isBlank (take (recordLength value) (drop o region)) ≡ true → sets region o (recordBytes key value) ≡ written region o (recordBytes key value)
-append-stores region o key value v l f b =
-    let n = length-record key value in
-    let fits : o + length (recordBytes key value) ≤ length region = omega arith in
-    let blank : isBlank (take (length (recordBytes key value)) (drop o region)) ≡ true = rw n b in
-    sym (over-blank region o (recordBytes key value) (record-bytes key value l v) fits blank)
+    -- the place that was gathered lies in its region
+    pub append-fits : editsFit s n (length value) (p .edits) ≡ true
+    append-fits = rw planned (go looked (sym looks))
+      where
+        placed : (place : Room) → ((r o : ℕ) (blank : Bool) → place ≡ Room.At r o blank → Placed image s n (recordLength (length value)) r o)
+            → editsFit s n (length value) (placePlan place .edits) ≡ true
+        placed Room.Nowhere h = refl
+        placed (Room.At r o false) h = refl
+        placed (Room.At r o true) h = let q = h r o true refl in place-fits s n (length value) r o (q .number, q .enough)
+
+        go : (l : Looked) → lookupIn key (Need.Room (recordLength (length value))) s image (probes key n) ≡ l → editsFit s n (length value) (appendPlan l .edits) ≡ true
+        go (Looked.Live r x) e = refl
+        go (Looked.Bad g o) e = refl
+        go (Looked.Through seen) e = placed _ (λ r o blank k. placed-at image s n key (recordLength (length value)) r o blank seen (append-allowed .0) e k .0)
+
+-- A removal: the key's record is found, and makes the plan.
+module _ (how : Removal) (image : List ℕ) (s n key : ℕ) {hit : Hit} {p : Plan} (looks : hit ≡ hitOf image s n key) (planned : p ≡ removePlan how hit) where
+  pub remove-is : carried s key [] image p ≡ removeOf how image s n key
+  unfolding removeOf
+  remove-is = rw (planned, looks)
+
+  -- the image is allowed, and the record lies in it
+  pub remove-fits : {r : ℕ} {x : Record} → hit ≡ Hit.Live r x → Fits image s n × (editsFit s n 0 (p .edits) ≡ true)
+  remove-fits {r} {x} e =
+      let h = held image s n key r x (sym looks ∙ e) in
+      (h .fit, rw (planned, e) (join (lt-ltb r n (h .found .number)) (record-fits s x (h .found .least, h .found .short, h .found .fits))))

@@ -1,4 +1,5 @@
 pub mod Ends
+pub mod Edits
 pub mod Values
 pub mod Sweep
 pub mod Anew

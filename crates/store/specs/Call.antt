@@ -1,9 +1,14 @@
--- A call of the store as data, for statements that speak of any call.
+-- A call of the store as data, for statements that speak of any call, and what it is about: its key, its value's length, the lookup it begins with.
 use Prim.Native.Nat.{ℕ}
-use mathlib.Core.List.{List}
-use Rattle.store.specs.declared.Answer.{Answer}
-use Rattle.store.specs.declared.Removal.{Removal}
-use Rattle.store.specs.Store.{Done, getOf, appendOf, removeOf, collectOf, initialiseOf}
+use mathlib.Core.List.{List, []}
+use mathlib.Core.Option.{Option, none, some}
+use lib.ListN.{length}
+use Rattle.region.specs.declared.Removal.{Removal}
+use Rattle.plans.specs.declared.Answer.{Answer}
+use Rattle.plans.specs.declared.Aim.{Aim}
+use Rattle.store.specs.Read.{getOf}
+use Rattle.store.specs.Write.{Done, appendOf, removeOf, initialiseOf}
+use Rattle.store.specs.Collect.{collectOf}
 
 -- What can be asked of an image. Invalidate and zeroise are the two removals.
 pub data Call : Type 0 where
@@ -18,6 +23,30 @@ invalidate key = remove Removal.Invalidate key
 
 abbrev pub zeroise : ℕ → Call
 zeroise key = remove Removal.Zeroise key
+
+-- Its key. Collect has none.
+abbrev pub keyOf : Call → Option ℕ
+keyOf (get key buffer) = some key
+keyOf (append key value) = some key
+keyOf (remove how key) = some key
+keyOf collect = none
+keyOf (initialise key) = some key
+
+-- The value that it is to store. Only append is given one.
+abbrev pub valueOf : Call → List ℕ
+valueOf (get key buffer) = []
+valueOf (append key value) = value
+valueOf (remove how key) = []
+valueOf collect = []
+valueOf (initialise key) = []
+
+-- What its lookup is for, where it begins with one.
+abbrev pub aimOf : Call → Option Aim
+aimOf (get key buffer) = some Aim.Get
+aimOf (append key value) = some Aim.Append
+aimOf (remove how key) = some (Aim.Remove how)
+aimOf collect = none
+aimOf (initialise key) = some Aim.Initialise
 
 -- What a call on an image with S and N answers, and what the image then is. Get leaves it.
 abbrev pub outcome : Call → List ℕ → ℕ → ℕ → Done

@@ -1,3 +1,4 @@
-pub mod Answer
-pub mod Store
+pub mod Read
+pub mod Write
+pub mod Collect
 pub mod Call

@@ -1,32 +1,9 @@
 // Collect: regions whose records are all dead are erased.
 ghost use mathlib.Core.Path.{_≡_};
-ghost use Prim.Native.Nat.{_*_};
-ghost use lib.ListN.{length};
-ghost use Rattle.store.specs.Store.{verdict, collectOf};
-use crate::Answer;
-use crate::Verdict;
+ghost use Rattle.store.specs.Collect.{collectOf};
 use lookup::Refusal;
-use region::Event;
-use region::Want;
-
-// What becomes of a region: the first live record or bad place decides.
-pub fn judge(region: &[u8]) -> Verdict
-    ensures { λ r. ⌜ r ≡ verdict (now (region .entry)) ⌝ }
-{
-    let event = region::find(region, Want::Any);
-    match event {
-        Event::Live(_) => Verdict::Stands,
-        Event::Bad(fault, at) => Verdict::Bad(fault, at),
-        Event::End(at) => {
-            // Records begin at place 0: a walk that ends there met none.
-            if at == 0 {
-                Verdict::Stands
-            } else {
-                Verdict::Erase
-            }
-        }
-    }
-}
+use plans::Answer;
+use plans::Verdict;
 
 pub fn garbage_collect(image: &mut [u8], s: usize, n: usize) -> Answer
     ensures { λ r. ⌜ (r ≡ collectOf (now (image .entry)) s n .answer) × (now (image .exit) ≡ collectOf (now (image .entry)) s n .image) ⌝ }
@@ -42,17 +19,17 @@ pub fn garbage_collect(image: &mut [u8], s: usize, n: usize) -> Answer
         }
         let a = r * s;
         let e = a + s;
-        let verdict = judge(&image[a..e]);
+        let verdict = plans::judge(r, &image[a..e]);
         match verdict {
             Verdict::Stands => {
                 r += 1;
             }
             Verdict::Erase => {
-                chip::erase(&mut image[a..e]);
+                chip::erase_region(image, s, n, r);
                 freed += s;
                 r += 1;
             }
-            Verdict::Bad(fault, _) => break Answer::Refused(Refusal::of(fault)),
+            Verdict::Bad { fault, place: _ } => break Answer::Refused(Refusal::of(fault)),
         }
     }
 }

@@ -1,42 +1,44 @@
 // Get: the value of a key's record into a buffer.
 ghost use mathlib.Core.Path.{_≡_};
-ghost use Prim.Native.Nat.{_≤_};
+ghost use Prim.Native.Nat.{_+_, _≤_};
 ghost use lib.ListN.{length};
-ghost use Rattle.store.specs.Store.{readAnswer, readBuffer, getOf};
-use crate::Answer;
+ghost use Rattle.store.specs.Read.{readAnswer, readBuffer, getOf};
 use lookup::Hit;
 use lookup::Refusal;
+use plans::Answer;
 use region::Record;
 
-// Get's answer by the bytes of the record, for a buffer of so many bytes.
-pub fn read_answer(bytes: &[u8], room: usize) -> Answer
-    requires { ⌜ 15 ≤ length (now bytes) ⌝ }
-    ensures { λ r. ⌜ r ≡ readAnswer (now (bytes .entry)) room ⌝ }
+// Get's answer by a record of a region, for a buffer of so many bytes.
+pub fn read_answer(region: &[u8], rec: Record, capacity: usize) -> Answer
+    requires { ⌜ (15 ≤ rec .len) × (rec .at + rec .len ≤ length (now region)) ⌝ }
+    ensures { λ r. ⌜ r ≡ readAnswer (now (region .entry)) rec capacity ⌝ }
 {
-    let len = bytes.len() - Record::LEAST;
-    if room < len {
+    let len = rec.len - Record::LEAST;
+    if capacity < len {
         return Answer::Refused(Refusal::BufferTooSmall(len));
     }
-    if region::check_sum_fits(bytes) {
+    let a = rec.at;
+    let e = a + rec.len;
+    if region::check_sum_fits(&region[a..e]) {
         Answer::Complete(len)
     } else {
         Answer::Refused(Refusal::InvalidCheckSum)
     }
 }
 
-// The value of the record's bytes to the buffer's front, as much of it as the buffer takes.
-pub fn copy_value(bytes: &[u8], buffer: &mut [u8])
-    requires { ⌜ 15 ≤ length (now bytes) ⌝ }
-    ensures { λ _. ⌜ now (buffer .exit) ≡ readBuffer (now (bytes .entry)) (now (buffer .entry)) ⌝ }
+// The value of a record of a region to the buffer's front, as much of it as the buffer takes.
+pub fn copy_value(region: &[u8], rec: Record, buffer: &mut [u8])
+    requires { ⌜ (15 ≤ rec .len) × (rec .at + rec .len ≤ length (now region)) ⌝ }
+    ensures { λ _. ⌜ now (buffer .exit) ≡ readBuffer (now (region .entry)) rec (now (buffer .entry)) ⌝ }
 {
-    let from = Record::HEADER_LENGTH;
-    let len = bytes.len() - Record::LEAST;
+    let from = rec.at + Record::HEADER_LENGTH;
+    let len = rec.len - Record::LEAST;
     let most = buffer.len();
     if most < len {
-        bytes::copy(&bytes[from..from + most], buffer);
+        bytes::copy(&region[from..from + most], buffer);
         return;
     }
-    bytes::copy(&bytes[from..from + len], buffer);
+    bytes::copy(&region[from..from + len], buffer);
 }
 
 pub fn get_key(image: &[u8], s: usize, n: usize, key: u64, buffer: &mut [u8]) -> Answer
@@ -45,12 +47,12 @@ pub fn get_key(image: &[u8], s: usize, n: usize, key: u64, buffer: &mut [u8]) ->
     let hit = lookup::find_key(image, s, n, key);
     match hit {
         Hit::Refused(refusal) => Answer::Refused(refusal),
-        Hit::Live(r, rec) => {
-            let a = r * s + rec.at;
-            let e = a + rec.len;
-            let room = buffer.len();
-            copy_value(&image[a..e], buffer);
-            read_answer(&image[a..e], room)
+        Hit::Live { region, rec } => {
+            let a = region * s;
+            let e = a + s;
+            let capacity = buffer.len();
+            copy_value(&image[a..e], rec, buffer);
+            read_answer(&image[a..e], rec, capacity)
         }
     }
 }

@@ -1,18 +1,84 @@
 // Append, the two removals, and initialise.
 ghost use mathlib.Core.Path.{_≡_};
-ghost use Prim.Native.Nat.{_+_, _≤_, _<_};
+ghost use mathlib.Core.Bool.{true};
+ghost use Prim.Native.Nat.{_≤_};
 ghost use lib.ListN.{length};
-ghost use lib.Seq.{sets};
-ghost use Rattle.store.specs.Store.{appendOf, removalPlace, removalBytes, removeOf, initialiseOf, startsAnew};
-use crate::Answer;
-use crate::Removal;
+ghost use Rattle.chip.specs.Geometry.{Fits};
+ghost use Rattle.region.specs.declared.Removal.{Removal};
+ghost use Rattle.plans.specs.Writes.{listed, edited, applied};
+ghost use Rattle.plans.specs.Fits.{editFits, editsFit};
+ghost use Rattle.store.specs.Write.{endOf, carried, appendOf, removeOf, initialiseOf};
 use lookup::Check;
 use lookup::Hit;
-use lookup::Looked;
 use lookup::Need;
 use lookup::Refusal;
-use lookup::Room;
+use plans::Answer;
+use plans::Edit;
+use plans::Edits;
+use plans::First;
+use plans::Plan;
+use plans::Then;
 use region::Record;
+use region::Removal;
+
+// One edit of an image.
+fn make_edit(image: &mut [u8], s: usize, n: usize, edit: Edit, key: u64, value: &[u8])
+    requires { ⌜ Fits (now image) s n × (length (now value) ≤ 4079) × (editFits s n (length (now value)) edit ≡ true) ⌝ }
+    ensures { λ _. ⌜ now (image .exit) ≡ edited s key (now (value .entry)) edit (now (image .entry)) ⌝ }
+{
+    match edit {
+        Edit::Lay { region, at } => {
+            region::write_record(image, region * s + at, key, value);
+        }
+        Edit::Kill { how, region, rec } => {
+            region::write_kill(image, region * s + rec.at, how, rec);
+        }
+        Edit::Erase { region } => {
+            chip::erase_region(image, s, n, region);
+        }
+    }
+}
+
+// The edits of a list, one after the other.
+fn make_edits(image: &mut [u8], s: usize, n: usize, edits: Edits, key: u64, value: &[u8])
+    requires { ⌜ Fits (now image) s n × (length (now value) ≤ 4079) × (editsFit s n (length (now value)) edits ≡ true) ⌝ }
+    ensures { λ _. ⌜ now (image .exit) ≡ applied s key (now (value .entry)) (listed edits) (now (image .entry)) ⌝ }
+{
+    let mut left = edits;
+    loop {
+        let first = plans::first_of(left);
+        match first {
+            First::Nothing => {
+                return;
+            }
+            First::Do(edit) => {
+                make_edit(image, s, n, edit, key, value);
+                left = plans::rest_of(left);
+            }
+        }
+    }
+}
+
+// The answer of a plan that ends with one.
+fn end_of(next: Then) -> Answer
+    ensures { λ r. ⌜ r ≡ endOf next ⌝ }
+{
+    let Then::Ends(answer) = next else {
+        return Answer::Refused(Refusal::BadCall);
+    };
+    answer
+}
+
+// A plan carried out.
+fn carry_out(image: &mut [u8], s: usize, n: usize, plan: Plan, key: u64, value: &[u8]) -> Answer
+    requires { ⌜ Fits (now image) s n × (length (now value) ≤ 4079) × (editsFit s n (length (now value)) (plan .edits) ≡ true) ⌝ }
+    ensures { λ r. ⌜ (r ≡ carried s key (now (value .entry)) (now (image .entry)) plan .answer) × (now (image .exit) ≡ carried s key (now (value .entry)) (now (image .entry)) plan .image) ⌝ }
+{
+    let edits = plan.edits;
+    let next = plan.next;
+    make_edits(image, s, n, edits, key, value);
+    end_of(next)
+}
 
 pub fn append_key(image: &mut [u8], s: usize, n: usize, key: u64, value: &[u8]) -> Answer
     ensures { λ r. ⌜ (r ≡ appendOf (now (image .entry)) s n key (now (value .entry)) .answer) × (now (image .exit) ≡ appendOf (now (image .entry)) s n key (now (value .entry)) .image) ⌝ }
@@ -21,57 +87,21 @@ pub fn append_key(image: &mut [u8], s: usize, n: usize, key: u64, value: &[u8]) 
     if let Check::Refused(refusal) = check {
         return Answer::Refused(refusal);
     }
-    let looked = lookup::look_up(
-        &image[..],
-        s,
-        n,
-        key,
-        Need::Room(value.len() + Record::LEAST),
-    );
-    let Looked::Through(seen) = looked else {
-        return Answer::Refused(looked.refusal());
-    };
-    let room = seen.room;
-    let Room::At(r, at, blank) = room else {
-        return Answer::Refused(Refusal::FlashFull);
-    };
-    if !blank {
-        return Answer::Refused(Refusal::CorruptData);
-    }
-    let a = r * s;
-    let e = a + s;
-    region::lay_record(&mut image[a..e], at, key, value);
-    Answer::Written
-}
-
-// What a removal writes, laid into the record's region.
-pub fn lay_removal(region: &mut [u8], rec: Record, how: Removal)
-    requires { ⌜ (15 ≤ rec .len) × (rec .at + rec .len ≤ length (now region)) ⌝ }
-    ensures { λ _. ⌜ now (region .exit) ≡ sets (now (region .entry)) (removalPlace how rec) (removalBytes how (now (region .entry)) rec) ⌝ }
-{
-    match how {
-        Removal::Invalidate => {
-            region::clear_live(region, rec.at);
-        }
-        Removal::Zeroise => {
-            region::lay_zeros(region, rec.at, rec.len);
-        }
-    }
+    let need = Need::Room(value.len() + Record::LEAST);
+    let looked = lookup::look_up(&image[..], s, n, key, need);
+    let plan = plans::append_plan(looked);
+    carry_out(image, s, n, plan, key, value)
 }
 
 fn remove(image: &mut [u8], s: usize, n: usize, key: u64, how: Removal) -> Answer
     ensures { λ r. ⌜ (r ≡ removeOf how (now (image .entry)) s n key .answer) × (now (image .exit) ≡ removeOf how (now (image .entry)) s n key .image) ⌝ }
 {
     let hit = lookup::find_key(&image[..], s, n, key);
-    match hit {
-        Hit::Refused(refusal) => Answer::Refused(refusal),
-        Hit::Live(r, rec) => {
-            let a = r * s;
-            let e = a + s;
-            lay_removal(&mut image[a..e], rec, how);
-            Answer::Written
-        }
+    if let Hit::Refused(refusal) = hit {
+        return Answer::Refused(refusal);
     }
+    let plan = plans::remove_plan(how, hit);
+    carry_out(image, s, n, plan, key, b"")
 }
 
 pub fn invalidate_key(image: &mut [u8], s: usize, n: usize, key: u64) -> Answer
@@ -86,37 +116,12 @@ pub fn zeroise_key(image: &mut [u8], s: usize, n: usize, key: u64) -> Answer
     remove(image, s, n, key, Removal::Zeroise)
 }
 
-// Whether initialise erases the chip on this answer of its lookup.
-pub fn starts_anew(answer: Answer) -> bool
-    ensures { λ r. ⌜ r ≡ startsAnew answer ⌝ }
-{
-    match answer {
-        Answer::Complete(_) => false,
-        Answer::Written => false,
-        Answer::Freed(_) => false,
-        Answer::Refused(refusal) => match refusal {
-            Refusal::BadGeometry => false,
-            Refusal::BadKey => false,
-            Refusal::ObjectTooLarge => false,
-            Refusal::KeyNotFound => true,
-            Refusal::KeyAlreadyExists => false,
-            Refusal::FlashFull => false,
-            Refusal::UnsupportedVersion => true,
-            Refusal::CorruptData => true,
-            Refusal::BufferTooSmall(_) => true,
-            Refusal::InvalidCheckSum => true,
-            Refusal::BadCall => false,
-            Refusal::FlashFailed => false,
-        },
-    }
-}
-
 pub fn initialise(image: &mut [u8], s: usize, n: usize, key: u64) -> Answer
     ensures { λ r. ⌜ (r ≡ initialiseOf (now (image .entry)) s n key .answer) × (now (image .exit) ≡ initialiseOf (now (image .entry)) s n key .image) ⌝ }
 {
     let mut nothing: [u8; 0] = [];
     let answer = crate::get_key(&image[..], s, n, key, &mut nothing);
-    if !starts_anew(answer) {
+    if !plans::starts_anew(answer) {
         return answer;
     }
     chip::erase(image);

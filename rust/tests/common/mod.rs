@@ -1,5 +1,8 @@
 //! A flash in memory, and helpers that several tests use.
 #![allow(dead_code)]
+pub mod rule;
+
+use stilefray::ffi::Operation;
 use stilefray::stepped::{Reply, Request, Running};
 use stilefray::{image, Answer, Flash, NotDone};
 
@@ -10,6 +13,30 @@ pub const N: usize = 4;
 pub fn blank() -> Vec<u8> {
     vec![255; S * N]
 }
+
+/// No operation: all zeros, as a refused start hands it out.
+pub const NONE: Operation = Operation {
+    layout: 0,
+    fresh: 0,
+    lent: 0,
+    edit: 0,
+    next: 0,
+    aim: 0,
+    tag: 0,
+    version: 0,
+    flags: 0,
+    s: 0,
+    n: 0,
+    key: 0,
+    len: 0,
+    region: 0,
+    at: 0,
+    size: 0,
+    found: 0,
+    a: 0,
+    b: 0,
+    c: 0,
+};
 
 /// A service that was done.
 #[derive(Clone, Debug, PartialEq, Eq)]
@@ -101,7 +128,7 @@ pub struct Left {
 impl Call {
     pub fn start(&self, s: usize, n: usize) -> Result<Running, stilefray::Refusal> {
         match self {
-            Call::Get(key, room) => Running::get_key(s, n, *key, *room),
+            Call::Get(key, buffer_len) => Running::get_key(s, n, *key, *buffer_len),
             Call::Append(key, value) => Running::append_key(s, n, *key, value.len()),
             Call::Invalidate(key) => Running::invalidate_key(s, n, *key),
             Call::Zeroise(key) => Running::zeroise_key(s, n, *key),
@@ -120,7 +147,7 @@ impl Call {
     /// Get's buffer, of a byte that no test stores.
     pub fn buffer(&self) -> Vec<u8> {
         match self {
-            Call::Get(_, room) => vec![0xEE; *room],
+            Call::Get(_, buffer_len) => vec![0xEE; *buffer_len],
             _ => Vec::new(),
         }
     }

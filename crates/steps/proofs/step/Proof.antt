@@ -1,46 +1,54 @@
--- `steps::step` meets its contract: a call that does not fit leaves everything, and one that does acts on what was decided.
+-- `steps::step` meets its contract: a call that does not fit is BadCall, and else the plan goes on and its next edit is laid.
 -- Assumes nothing.
-use Prim.Native.Nat.{ℕ}
-use mathlib.Core.Path.{_≡_, refl, sym, _∙_, ap}
-use mathlib.Core.Bool.{true}
-use lib.ListN.{length}
-use borrow.Author.Tests.{not-true, not-false}
 use denote.Ref.{now}
-use Rattle.steps.specs.declared.Ask.{Ask}
-use Rattle.steps.specs.Rule.{buffersFit, replyFits, callFits, Kept}
-use Rattle.steps.specs.Step.{nextOf, stepped, regionAfter, bufferAfter}
-use Rattle.steps.proofs.Rules.{fits-kept}
-use Rattle.steps.proofs.After.{After, next-after}
+use lib.ListN.{length}
+use mathlib.Core.Path.{_≡_, sym, _∙_, ap}
+use mathlib.Core.Bool.{true}
+use borrow.Author.Tests.{not-true, not-false}
+use Rattle.running.specs.declared.Op.{Op}
+use Rattle.running.specs.Waits.{withPlan, requestOf}
+use Rattle.running.specs.Rule.{Ruled}
+use Rattle.running.proofs.Rules.{fits-ruled, value-lent}
+use Rattle.steps.specs.Lend.{laidOn}
+use Rattle.steps.specs.Step.{nextOp, stepped, regionAfter, bufferAfter}
+use Rattle.steps.proofs.Keeps.{next-ruled}
 use borrow.Author.Needs.{needs}
 use Rattle.steps.proofs.step.Statement.{statement}
 use Rattle.steps.proofs.step.Tie as tie
+use Rattle.running.proofs.Op.with_plan.Reads as with-plan-reads
+use Rattle.running.proofs.call_fits.Reads as call-fits-reads
+use Rattle.running.proofs.request_of.Reads as request-of-reads
+use Rattle.steps.proofs.advance.next_plan.Reads as next-plan-reads
+use Rattle.steps.proofs.lend.lay_on.Reads as lay-on-reads
 
--- the call fits, and what that says
-fits-here : (c : tie.Else1) → let a = c .before .before .before .before .before .args in callFits (a .op) (a .reply) (length (now (a .region))) (length (now (a .value))) (length (now (a .buffer))) ≡ true
-fits-here c = sym (c .before .call-fits .ensures) ∙ not-false _ (c .if1 .left)
-
-allowed : (c : tie.Else1) → let a = c .before .before .before .before .before .args in
-    Kept (a .op) × (length (now (a .region)) ≡ a .op .s) × (buffersFit (a .op .job) (length (now (a .value))) (length (now (a .buffer))) ≡ true) × (replyFits (a .op .phase) (a .reply) ≡ true)
-allowed c = let a = c .before .before .before .before .before .args in fits-kept (a .op) (a .reply) (length (now (a .region))) (length (now (a .value))) (length (now (a .buffer))) (fits-here c)
-
-becomes : (c : tie.Else1) → let a = c .before .before .before .before .before .args in After (a .op .job) (now (a .value)) (length (now (a .region))) (nextOf (a .op) (a .reply) (now (a .region)))
-becomes c = let a = c .before .before .before .before .before .args in let (k, e, l, _) = allowed c in next-after (a .op) (a .reply) (now (a .value)) (length (now (a .buffer))) (now (a .region)) k e l
+-- the operation as it goes on
+after : (c : tie.After-with-plan) → let a = c .before .before .before .before .before .before .before .before .before .before .before .args in c .with-plan .result ≡ nextOp (a .op) (a .reply) (now (a .region))
+after c = let a = c .before .before .before .before .before .before .before .before .before .before .before .args in c .with-plan .ensures ∙ ap (withPlan (a .op)) (c .before .before .before .next-plan .ensures .0)
 
 call-fits-requires : tie.Need-call-fits-requires
 call-fits-requires c κs = search needs
 
 returns : tie.Need-returns
 unfolding stepped regionAfter bufferAfter
-returns c = rw (sym (c .before .call-fits .ensures) ∙ not-true _ (c .if1 .taken)) (refl, refl, refl)
+returns c = let t = sym (c .before .call-fits .ensures) ∙ not-true _ (c .if1 .taken) in (rw t, rw t, rw t)
 
-next-of-requires : tie.Need-next-of-requires
-next-of-requires c κs = let (k, e, _, _) = allowed (c .before) in (k, e)
+next-plan-requires : tie.Need-next-plan-requires
+next-plan-requires c κs = let f = fits-ruled _ _ _ _ _ (sym (c .before .before .before .call-fits .ensures) ∙ not-false _ (c .before .before .if1 .left)) in (f .0, f .1)
 
-act-requires : tie.Need-act-requires
-act-requires c κs = rw (c .before .before .before .next-of .ensures) (becomes (c .before .before .before .before .before) .acts)
+with-plan-requires : tie.Need-with-plan-requires
+with-plan-requires c κs = search needs
 
-ask-for-requires : tie.Need-ask-for-requires
-ask-for-requires c κs = rw (c .before .before .before .before .before .before .before .before .next-of .ensures) (becomes (c .before .before .before .before .before .before .before .before .before .before) .kept)
+lay-on-requires : tie.Need-lay-on-requires
+lay-on-requires c κs =
+    let a = c .before .before .before .before .before .before .before .before .before .before .before .before .args in
+    let f = fits-ruled _ _ _ _ _ (sym (c .before .before .before .before .before .before .before .before .call-fits .ensures) ∙ not-false _ (c .before .before .before .before .before .before .before .if1 .left)) in
+    rw (after (c .before)) (next-ruled (a .op) (a .reply) (now (a .region)) (f .0) (f .1), f .1, value-lent (a .op .lent) (now (a .value)) _ (f .2))
+
+request-of-requires : tie.Need-request-of-requires
+request-of-requires c κs =
+    let a = c .before .before .before .before .before .before .before .before .before .before .before .before .before .before .before .args in
+    let f = fits-ruled _ _ _ _ _ (sym (c .before .before .before .before .before .before .before .before .before .before .before .call-fits .ensures) ∙ not-false _ (c .before .before .before .before .before .before .before .before .before .before .if1 .left)) in
+    rw (after (c .before .before .before .before)) (next-ruled (a .op) (a .reply) (now (a .region)) (f .0) (f .1))
 
 same-length : tie.Need-same-length
 same-length c = search needs
@@ -51,9 +59,13 @@ same-length-2 c = search needs
 returns-2 : tie.Need-returns-2
 unfolding stepped regionAfter bufferAfter
 returns-2 c =
-    let e = c .before .before .before .before .before .before .before .before .before .next-of .ensures in
-    let a = c .before .before .before .before .before .act .ensures in
-    rw (fits-here (c .before .before .before .before .before .before .before .before .before .before .before), ← e) (ap (λ (k : Ask). record { op = c .before .before .before .before .before .before .before .before .before .next-of .result .op; ask = k }) (c .ask-for .ensures), a .0, a .1)
+    let a = c .before .before .before .before .before .before .before .before .before .before .before .before .before .before .before .before .args in
+    let t = sym (c .before .before .before .before .before .before .before .before .before .before .before .before .call-fits .ensures) ∙ not-false _ (c .before .before .before .before .before .before .before .before .before .before .before .if1 .left) in
+    let e = after (c .before .before .before .before .before) in (
+      rw t (λ i. record { op = e i; request = (c .request-of .ensures ∙ ap requestOf e) i }),
+      rw t (c .before .before .before .lay-on .ensures ∙ ap (λ (o : Op). laidOn (a .reply) o (now (a .region)) (now (a .value))) e),
+      rw t (c .before .before .before .before .before .before .before .before .next-plan .ensures .1),
+    )
 
 pub step-spec : {M : Type 1} → statement M
 step-spec =
@@ -61,9 +73,10 @@ step-spec =
     (tie.spec
     call-fits-requires
     returns
-    next-of-requires
-    act-requires
-    ask-for-requires
+    next-plan-requires
+    with-plan-requires
+    lay-on-requires
+    request-of-requires
     same-length
     same-length-2
     returns-2)

@@ -22,12 +22,12 @@ loop-holds c = search needs
 look-requires : tie.Need-look-requires Inv-loop μ-loop
 look-requires c κs = search needs
 
-enum-known-step : tie.Need-enum-known-step Inv-loop μ-loop
-enum-known-step c = search needs
+enum-known-met : tie.Need-enum-known-met Inv-loop μ-loop
+enum-known-met c = search needs
 
 -- the record that is found lies in the region
-fits : (c : tie.After-step Inv-loop μ-loop) → (15 ≤ c .step .given .0 .0 .len) × (c .before .before .before .loop .at + c .step .given .0 .0 .len ≤ length (now (c .before .before .before .before .before .args .region)))
-fits c = found-fits (now (c .before .before .before .before .before .args .region)) (c .before .before .before .loop .at) (c .step .given .0 .0) (sym (c .before .before .look .ensures) ∙ c .step .given .1)
+fits : (c : tie.After-met Inv-loop μ-loop) → (15 ≤ c .met .given .0 .0 .len) × (c .before .before .before .loop .at + c .met .given .0 .0 .len ≤ length (now (c .before .before .before .before .before .args .region)))
+fits c = found-fits (now (c .before .before .before .before .before .args .region)) (c .before .before .before .loop .at) (c .met .given .0 .0) (sym (c .before .before .look .ensures) ∙ c .met .given .1)
 
 record-row-requires : tie.Need-record-row-requires Inv-loop μ-loop
 record-row-requires c κs = fits (c .before) .0
@@ -41,8 +41,8 @@ loop-less c = omega (arith, fits (c .before .before .before))
 loop-again : tie.Need-loop-again Inv-loop μ-loop
 loop-again c = fits (c .before .before .before) .1
 
-enum-known-step-2 : tie.Need-enum-known-step-2 Inv-loop μ-loop
-enum-known-step-2 c = search needs
+enum-known-met-2 : tie.Need-enum-known-met-2 Inv-loop μ-loop
+enum-known-met-2 c = search needs
 
 sub-stop-row : tie.Need-sub-stop-row Inv-loop μ-loop
 sub-stop-row c = search needs
@@ -67,12 +67,12 @@ rows-spec =
     μ-loop
     loop-holds
     look-requires
-    enum-known-step
+    enum-known-met
     record-row-requires
     add-at
     loop-less
     loop-again
-    enum-known-step-2
+    enum-known-met-2
     sub-stop-row
     part-stop-row-start
     part-stop-row-end

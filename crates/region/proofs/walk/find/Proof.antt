@@ -8,9 +8,9 @@ use mathlib.Core.List.{List}
 use lib.ListN.{length}
 use denote.Ref.{now}
 use Rattle.region.specs.declared.Record.{Record}
-use Rattle.region.specs.declared.Step.{Step}
+use Rattle.region.specs.declared.Met.{Met}
 use Rattle.region.specs.declared.Event.{Event}
-use Rattle.region.specs.Walk.{stepAt, isWanted}
+use Rattle.region.specs.Walk.{metAt, isWanted}
 use Rattle.region.proofs.Steps.{found-fits}
 use Rattle.region.proofs.Search.{firstFrom, first-stop, first-found}
 use borrow.Author.Needs.{needs}
@@ -29,38 +29,38 @@ loop-holds c = (search needs, refl)
 look-requires : tie.Need-look-requires Inv-loop μ-loop
 look-requires c κs = search needs
 
-enum-known-step : tie.Need-enum-known-step Inv-loop μ-loop
-enum-known-step c = search needs
+enum-known-met : tie.Need-enum-known-met Inv-loop μ-loop
+enum-known-met c = search needs
 
 event-requires : tie.Need-event-requires Inv-loop μ-loop
 event-requires c κs = search needs
 
-enum-known-step-2 : tie.Need-enum-known-step-2 Inv-loop μ-loop
-enum-known-step-2 c = search needs
+enum-known-met-2 : tie.Need-enum-known-met-2 Inv-loop μ-loop
+enum-known-met-2 c = search needs
 
 by-requires : tie.Need-by-requires Inv-loop μ-loop
 by-requires c κs = search needs
 
 -- what stands at the place, where it is a record
-abbrev region : tie.After-step2 Inv-loop μ-loop → List ℕ
+abbrev region : tie.After-met2 Inv-loop μ-loop → List ℕ
 region c = now (c .before .before .before .before .before .args .region)
 
-abbrev test : tie.After-step2 Inv-loop μ-loop → Record → Bool
+abbrev test : tie.After-met2 Inv-loop μ-loop → Record → Bool
 test c = isWanted (c .before .before .before .before .before .args .want)
 
-abbrev place : tie.After-step2 Inv-loop μ-loop → ℕ
+abbrev place : tie.After-met2 Inv-loop μ-loop → ℕ
 place c = c .before .before .before .loop .at
 
-abbrev found : tie.After-step2 Inv-loop μ-loop → Record
-found c = c .step2 .given .0 .0
+abbrev found : tie.After-met2 Inv-loop μ-loop → Record
+found c = c .met2 .given .0 .0
 
-is : (c : tie.After-step2 Inv-loop μ-loop) → stepAt (region c) (place c) ≡ Step.Found (found c)
-is c = sym (c .before .before .look .ensures) ∙ c .step2 .given .1
+is : (c : tie.After-met2 Inv-loop μ-loop) → metAt (region c) (place c) ≡ Met.Found (found c)
+is c = sym (c .before .before .look .ensures) ∙ c .met2 .given .1
 
-fits : (c : tie.After-step2 Inv-loop μ-loop) → (15 ≤ found c .len) × (place c + found c .len ≤ length (region c))
+fits : (c : tie.After-met2 Inv-loop μ-loop) → (15 ≤ found c .len) × (place c + found c .len ≤ length (region c))
 fits c = found-fits (region c) (place c) (found c) (is c)
 
-next : (c : tie.After-step2 Inv-loop μ-loop) (b : Bool) → test c (found c) ≡ b
+next : (c : tie.After-met2 Inv-loop μ-loop) (b : Bool) → test c (found c) ≡ b
     → firstFrom (test c) (region c) 0 ≡ cond b (Event.Live (found c)) (firstFrom (test c) (region c) (place c + found c .len))
 next c b h = sym (c .before .before .before .loop .inv .1) ∙ first-found (test c) (region c) (place c) (found c) b (is c) h
 
@@ -79,7 +79,7 @@ returns : tie.Need-returns Inv-loop μ-loop
 returns c =
     let l = c .before .before .before .before .before .loop in
     let a = c .before .before .before .before .before .before .before .args in
-    let s = c .before .before .step .given in
+    let s = c .before .before .met .given in
     c .event .ensures ∙ sym (first-stop (isWanted (a .want)) (now (a .region)) (l .at) (s .0 .0) (sym (c .before .before .before .before .look .ensures) ∙ s .1)) ∙ l .inv .1
 
 returns-2 : tie.Need-returns-2 Inv-loop μ-loop
@@ -93,9 +93,9 @@ find-spec =
     μ-loop
     loop-holds
     look-requires
-    enum-known-step
+    enum-known-met
     event-requires
-    enum-known-step-2
+    enum-known-met-2
     by-requires
     add-at
     loop-less

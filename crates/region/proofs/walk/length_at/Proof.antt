@@ -31,7 +31,7 @@ add-result-3 : tie.Need-add-result-3
 add-result-3 c = omega (arith, c .shared-slice-known2 .given (c .before .before .args .at + 2))
 
 returns : tie.Need-returns
-returns c = search needs
+returns c = omega (arith, c .shared-slice-known2 .given (c .before .before .args .at + 2))
 
 pub length-at-spec : {M : Type 1} → statement M
 length-at-spec =

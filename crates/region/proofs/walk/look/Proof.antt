@@ -11,25 +11,25 @@ sub-left : tie.Need-sub-left
 sub-left c = search needs
 
 returns : tie.Need-returns
-returns c = sym (stands-is _ _ _ _ (Stands.short (c .if1 .taken)))
+returns c = sym (stands-is _ _ _ (Stands.short (c .if1 .taken)))
 
 shared-slice-read-version : tie.Need-shared-slice-read-version
 shared-slice-read-version c = search needs
 
 returns-2 : tie.Need-returns-2
-returns-2 c = sym (stands-is _ _ _ _ (Stands.free (c .before .before .if1 .left) (c .if2 .taken)))
+returns-2 c = sym (stands-is _ _ _ (Stands.free (c .before .before .if1 .left) (c .if2 .taken)))
 
 returns-3 : tie.Need-returns-3
-returns-3 c = sym (stands-is _ _ _ _ (Stands.version (c .before .before .before .if1 .left) (c .before .if2 .left) (c .if3 .taken)))
+returns-3 c = sym (stands-is _ _ _ (Stands.version (c .before .before .before .if1 .left) (c .before .if2 .left) (c .if3 .taken)))
 
 length-at-requires : tie.Need-length-at-requires
 length-at-requires c κs = search needs
 
 returns-4 : tie.Need-returns-4
-returns-4 c = sym (stands-is _ _ _ _ (Stands.corrupt (c .before .before .before .before .before .if1 .left) (c .before .before .if3 .left) (λ h. absurd (omega arith))))
+returns-4 c = sym (stands-is _ _ _ (Stands.corrupt (c .before .before .before .before .before .if1 .left) (c .before .before .if3 .left) (λ h. absurd (omega arith))))
 
 returns-5 : tie.Need-returns-5
-returns-5 c = sym (stands-is _ _ _ _ (Stands.corrupt (c .before .before .before .before .before .before .if1 .left) (c .before .before .before .if3 .left) (λ h. omega arith)))
+returns-5 c = sym (stands-is _ _ _ (Stands.corrupt (c .before .before .before .before .before .before .if1 .left) (c .before .before .before .if3 .left) (λ h. omega arith)))
 
 add-flags : tie.Need-add-flags
 add-flags c = search needs
@@ -43,7 +43,7 @@ key-at-requires c κs = search needs
 returns-6 : tie.Need-returns-6
 returns-6 c =
     rw (c .key-at .ensures, c .before .before .before .before .length-at .ensures)
-    (sym (stands-is _ _ _ _ (Stands.sound (c .before .before .before .before .before .before .before .before .if1 .left) (c .before .before .before .before .before .if3 .left) (omega arith) (omega arith))))
+    (sym (stands-is _ _ _ (Stands.sound (c .before .before .before .before .before .before .before .before .if1 .left) (c .before .before .before .before .before .if3 .left) (omega arith) (omega arith))))
 
 pub look-spec : {M : Type 1} → statement M
 look-spec =

@@ -1,137 +1,108 @@
--- `steps::advance::advanced` meets its contract: what each phase becomes. The rule says of each that its region is one of the chip's.
+-- `steps::advance::advanced` meets its contract: the edit that was made is off the list, or the region that was read says what follows.
 -- Assumes nothing.
-use native.Mathlib.Omega.{arith}
-use mathlib.Core.Path.{_≡_, sym, _∙_, ap}
 use denote.Ref.{now}
-use Rattle.steps.specs.declared.Phase.{Phase}
-use Rattle.steps.specs.Step.{sweepEnds, advanceIn, advance}
-use Rattle.steps.proofs.Advances.{seek-fits, sweep-fits, clear-fits, wipe-fits}
-use Rattle.steps.proofs.Fits.{part-small}
+use native.Mathlib.Omega.{arith}
+use mathlib.Core.Path.{_≡_, refl, sym, _∙_, ap}
+use Rattle.chip.proofs.Image.{fits-blank, region-small}
+use Rattle.plans.specs.declared.Edits.{Edits}
+use Rattle.plans.specs.declared.Verdict.{Verdict}
+use Rattle.plans.specs.declared.Plan.{Plan}
+use Rattle.plans.specs.Sweeps.{sweepPlan}
+use Rattle.plans.proofs.Facts.{seek-facts, sweep-facts}
+use Rattle.running.proofs.Rules.{plan-of}
 use borrow.Author.Needs.{needs}
 use Rattle.steps.proofs.advance.advanced.Statement.{statement}
 use Rattle.steps.proofs.advance.advanced.Tie as tie
+use Rattle.plans.proofs.judge.Reads as judge-reads
+use Rattle.plans.proofs.sweep_plan.Reads as sweep-plan-reads
+use Rattle.plans.proofs.first_of.Reads as first-of-reads
+use Rattle.plans.proofs.rest_of.Reads as rest-of-reads
+use Rattle.steps.proofs.advance.seek_next.Reads as seek-next-reads
 
--- what the phase that the operation is in becomes
-for-phase : (c : tie.After-shared-slice-known) (phase : Phase) → let a = c .before .args in a .op .phase ≡ phase → advanceIn phase (a .op) (now (a .region)) ≡ advance (a .op) (now (a .region))
-for-phase c phase e = let a = c .before .args in ap (λ (p : Phase). advanceIn p (a .op) (now (a .region))) (sym e)
+first-of-requires : tie.Need-first-of-requires
+first-of-requires c κs = search needs
 
 enum-told : tie.Need-enum-told
 enum-told c = search needs
 
-first-phase-requires : tie.Need-first-phase-requires
-first-phase-requires c κs = search needs
+rest-of-requires : tie.Need-rest-of-requires
+rest-of-requires c κs = search needs
 
-goes-on-requires : tie.Need-goes-on-requires
-goes-on-requires c κs = search needs
-
-enum-known-phase : tie.Need-enum-known-phase
-enum-known-phase c = search needs
-
-seek-next-requires : tie.Need-seek-next-requires
-seek-next-requires c κs = let k = c .before .before .before .before .pre in (k .0, seek-fits (k .0) (c .before .phase .given .1), k .1)
+returns : tie.Need-returns
+returns c =
+    let op = c .before .before .before .before .before .before .args .op in
+    rw (sym (c .before .before .before .first-of .ensures) ∙ c .before .enum-told .given .1) (ap (λ (es : Edits). record { edits = es; next = op .plan .next }) (c .rest-of .ensures))
 
 enum-told-2 : tie.Need-enum-told-2
 enum-told-2 c = search needs
 
-ends-with-requires : tie.Need-ends-with-requires
-ends-with-requires c κs = search needs
-
 enum-told-3 : tie.Need-enum-told-3
 enum-told-3 c = search needs
 
-ends-with-requires-2 : tie.Need-ends-with-requires-2
-ends-with-requires-2 c κs = search needs
+enum-known-next : tie.Need-enum-known-next
+enum-known-next c = search needs
 
-enum-known-phase-2 : tie.Need-enum-known-phase-2
-enum-known-phase-2 c = search needs
+seek-next-requires : tie.Need-seek-next-requires
+seek-next-requires c κs =
+    let op = c .before .before .before .before .before .before .before .before .args .op in
+    let k = c .before .before .before .before .before .before .before .before .pre .0 in
+    let g = c .before .next .given .0 in
+    (k, seek-facts (op .s) (op .n) (op .lent) (g .0) (g .1 .0) (g .1 .1 .0) (rw (c .before .next .given .1) at (plan-of op k .next-good)) .1, c .before .before .before .before .before .before .before .before .pre .1)
+
+enum-known-next-2 : tie.Need-enum-known-next-2
+enum-known-next-2 c = search needs
 
 judge-requires : tie.Need-judge-requires
-judge-requires c κs = search needs
+judge-requires c κs =
+    let op = c .before .before .before .before .before .before .before .before .args .op in
+    let k = c .before .before .before .before .before .before .before .before .pre .0 in
+    let g = c .before .next2 .given .0 in
+    rw (c .before .before .before .before .before .before .before .before .pre .1) (omega (arith, region-small (fits-blank (k .shape)) (sweep-facts (op .s) (op .n) (op .lent) (g .0) (g .1 .0) (rw (c .before .next2 .given .1) at (plan-of op k .next-good)) .0)))
 
-sweep-ends-requires : tie.Need-sweep-ends-requires
-sweep-ends-requires c κs = sweep-fits (c .before .before .before .before .before .pre .0) (c .before .before .phase2 .given .1) .0
+sweep-plan-requires : tie.Need-sweep-plan-requires
+sweep-plan-requires c κs =
+    let op = c .before .before .before .before .before .before .before .before .before .args .op in
+    let k = c .before .before .before .before .before .before .before .before .before .pre .0 in
+    let g = c .before .before .next2 .given .0 in
+    let (low, few) = sweep-facts (op .s) (op .n) (op .lent) (g .0) (g .1 .0) (rw (c .before .before .next2 .given .1) at (plan-of op k .next-good)) in
+    (k .shape, low, few)
 
-enum-known-phase-3 : tie.Need-enum-known-phase-3
-enum-known-phase-3 c = search needs
-
-add-sweep-next : tie.Need-add-sweep-next
-add-sweep-next c = let k = c .before .before .before .before .before .pre .0 in let (i, f) = clear-fits k (c .before .before .phase3 .given .1) in omega (arith, f, part-small (k .shape) i)
-
-sweep-next-requires : tie.Need-sweep-next-requires
-sweep-next-requires c κs = clear-fits (c .before .before .before .before .before .pre .0) (c .before .before .phase3 .given .1) .0
-
-enum-known-phase-4 : tie.Need-enum-known-phase-4
-enum-known-phase-4 c = search needs
-
-wipe-next-requires : tie.Need-wipe-next-requires
-wipe-next-requires c κs = wipe-fits (c .before .before .before .before .pre .0) (c .before .phase4 .given .1)
-
-enum-known-phase-5 : tie.Need-enum-known-phase-5
-enum-known-phase-5 c = search needs
-
-ends-with-requires-3 : tie.Need-ends-with-requires-3
-ends-with-requires-3 c κs = search needs
-
-returns : tie.Need-returns
-unfolding advanceIn
-returns c = rw (c .before .before .enum-told .given .1, sym (c .before .first-phase .ensures)) (c .goes-on .ensures)
+enum-told-4 : tie.Need-enum-told-4
+enum-told-4 c = search needs
 
 returns-2 : tie.Need-returns-2
-unfolding advanceIn
-returns-2 c = c .seek-next .ensures ∙ for-phase (c .before .before .before .before) _ (c .before .before .phase .given .1)
+returns-2 c = rw (sym (c .before .before .before .before .first-of .ensures) ∙ c .before .before .enum-told2 .given .1, c .enum-told3 .given .1)
 
 returns-3 : tie.Need-returns-3
-unfolding advanceIn
-returns-3 c = rw (c .before .enum-told2 .given .1) (c .ends-with .ensures)
+returns-3 c = rw (sym (c .before .before .before .before .before .before .first-of .ensures) ∙ c .before .before .before .before .enum-told2 .given .1, c .before .before .next .given .1) (c .seek-next .ensures)
 
 returns-4 : tie.Need-returns-4
-unfolding advanceIn
-returns-4 c = rw (c .before .enum-told3 .given .1) (c .ends-with2 .ensures)
+returns-4 c =
+    let op = c .before .before .before .before .before .before .before .before .before .before .args .op in
+    let g = c .before .before .before .next2 .given .0 in
+    rw (sym (c .before .before .before .before .before .before .before .first-of .ensures) ∙ c .before .before .before .before .before .enum-told2 .given .1, c .before .before .before .next2 .given .1)
+    (c .sweep-plan .ensures ∙ ap (λ (v : Verdict). sweepPlan (op .s) (op .n) (g .0) (g .1 .0) v) (c .before .judge .ensures))
 
 returns-5 : tie.Need-returns-5
-unfolding advanceIn
-returns-5 c = let d = c .before .before .before in c .sweep-ends .ensures ∙ ap (sweepEnds (d .before .before .before .args .op) (d .phase2 .given .0 .0) (d .phase2 .given .0 .1 .0)) (c .before .judge .ensures) ∙ for-phase (d .before .before) _ (d .phase2 .given .1)
-
-returns-6 : tie.Need-returns-6
-unfolding advanceIn
-returns-6 c = rw (c .before .before .before .phase3 .given .1) (c .sweep-next .ensures)
-
-returns-7 : tie.Need-returns-7
-unfolding advanceIn
-returns-7 c = rw (c .before .before .phase4 .given .1) (c .wipe-next .ensures)
-
-returns-8 : tie.Need-returns-8
-unfolding advanceIn
-returns-8 c = rw (c .before .before .phase5 .given .1) (c .ends-with3 .ensures)
+returns-5 c = rw (sym (c .before .before .before .before .first-of .ensures) ∙ c .before .before .enum-told2 .given .1, c .enum-told4 .given .1)
 
 pub advanced-spec : {M : Type 1} → statement M
 advanced-spec =
     tie.close
     (tie.spec
+    first-of-requires
     enum-told
-    first-phase-requires
-    goes-on-requires
-    enum-known-phase
-    seek-next-requires
-    enum-told-2
-    ends-with-requires
-    enum-told-3
-    ends-with-requires-2
-    enum-known-phase-2
-    judge-requires
-    sweep-ends-requires
-    enum-known-phase-3
-    add-sweep-next
-    sweep-next-requires
-    enum-known-phase-4
-    wipe-next-requires
-    enum-known-phase-5
-    ends-with-requires-3
+    rest-of-requires
     returns
+    enum-told-2
+    enum-told-3
+    enum-known-next
+    seek-next-requires
+    enum-known-next-2
+    judge-requires
+    sweep-plan-requires
+    enum-told-4
     returns-2
     returns-3
     returns-4
-    returns-5
-    returns-6
-    returns-7
-    returns-8)
+    returns-5)

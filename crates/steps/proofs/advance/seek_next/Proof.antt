@@ -1,29 +1,29 @@
--- `steps::advance::seek_next` meets its contract: a turn on the region that was read ends the lookup, or the next region comes, or it was the last.
+-- `steps::advance::seek_next` meets its contract: the turn of the region that was read.
 -- Assumes nothing.
 use Prim.Native.Nat.{ℕ}
 use native.Mathlib.Omega.{arith}
-use mathlib.Core.Path.{_≡_, sym, _∙_, ap}
 use lib.ListN.{getD}
+use mathlib.Core.Path.{_≡_, _∙_, ap}
 use denote.Ref.{now}
-use borrow.Author.Tests.{lt-ltb, le-ltb}
+use Rattle.chip.proofs.Image.{fits-blank, region-small}
 use Rattle.probe.specs.Probe.{probe, probes}
-use Rattle.lookup.specs.Lookup.{turnOf}
-use Rattle.steps.specs.Op.{needOf}
-use Rattle.steps.specs.Step.{at-end}
-use Rattle.steps.proofs.Fits.{part-small}
-use Rattle.steps.proofs.Advances.{turn-seeks}
+use Rattle.lookup.specs.declared.Need.{Need}
+use Rattle.lookup.specs.Turns.{turnOf}
+use Rattle.plans.specs.Writes.{valueLent}
+use Rattle.plans.specs.Planning.{needOf}
+use Rattle.plans.proofs.Facts.{short-facts}
+use Rattle.running.proofs.Rules.{plan-of}
+use Rattle.steps.specs.Advance.{closes, turnedTo}
 use borrow.Author.Needs.{needs}
 use Rattle.steps.proofs.advance.seek_next.Statement.{statement}
 use Rattle.steps.proofs.advance.seek_next.Tie as tie
-
--- what the region that was read says
-turned : (c : tie.After-take-turn)
-    → let a = c .before .before .before .before .before .args in
-    c .take-turn .result ≡ turnOf (a .seen) (a .op .key) (needOf (a .op .job)) (getD (probes (a .op .key) (a .op .n)) (a .i) 0) (now (a .region))
-turned c =
-    let a = c .before .before .before .before .before .args in
-    let at : c .before .before .probe-at .result ≡ getD (probes (a .op .key) (a .op .n)) (a .i) 0 = c .before .before .probe-at .ensures .0 ∙ ap (λ (h : ℕ). getD (probe (a .op .n) h) (a .i) 0) (c .before .before .before .get-region .ensures .0) in
-    rw (sym (c .before .need-of .ensures), sym at) (c .take-turn .ensures)
+use Rattle.lookup.proofs.take_turn.Reads as take-turn-reads
+use Rattle.plans.proofs.Lent.value.Reads as value-reads
+use Rattle.plans.proofs.need_of.Reads as need-of-reads
+use Rattle.probe.proofs.get_region.Reads as get-region-reads
+use Rattle.probe.proofs.probe_at.Reads as probe-at-reads
+use Rattle.steps.proofs.advance.closed.Reads as closed-reads
+use Rattle.steps.proofs.advance.turned_to.Reads as turned-to-reads
 
 get-region-requires : tie.Need-get-region-requires
 get-region-requires c κs = search needs
@@ -31,41 +31,29 @@ get-region-requires c κs = search needs
 probe-at-requires : tie.Need-probe-at-requires
 probe-at-requires c κs = search needs
 
+value-requires : tie.Need-value-requires
+value-requires c κs = search needs
+
 need-of-requires : tie.Need-need-of-requires
-need-of-requires c κs = search needs
+need-of-requires c κs = let op = c .before .before .before .before .args .op in rw (c .value .ensures) (short-facts (op .lent) (plan-of op (c .before .before .before .before .pre .0) .value-short))
 
 take-turn-requires : tie.Need-take-turn-requires
-take-turn-requires c κs = let d = c .before .before .before .before in rw (d .pre .2) (omega (arith, part-small (d .pre .0 .shape) (c .before .probe-at .ensures .1)))
+take-turn-requires c κs = rw (c .before .before .before .before .before .pre .2) (omega (arith, region-small (fits-blank (c .before .before .before .before .before .pre .0 .shape)) (c .before .before .probe-at .ensures .1)))
 
-enum-known-turn : tie.Need-enum-known-turn
-enum-known-turn c = search needs
+closed-requires : tie.Need-closed-requires
+closed-requires c κs = search needs
 
-lookup-ends-requires : tie.Need-lookup-ends-requires
-lookup-ends-requires c κs = turn-seeks _ _ _ _ _ _ (sym (turned (c .before .before .before)) ∙ c .before .turn .given .1)
-
-enum-known-turn-2 : tie.Need-enum-known-turn-2
-enum-known-turn-2 c = search needs
-
-add-if1 : tie.Need-add-if1
-add-if1 c = search needs
-
-add-t18 : tie.Need-add-t18
-add-t18 c = search needs
-
-goes-on-requires : tie.Need-goes-on-requires
-goes-on-requires c κs = search needs
-
-lookup-ends-requires-2 : tie.Need-lookup-ends-requires-2
-lookup-ends-requires-2 c κs = at-end
+turned-to-requires : tie.Need-turned-to-requires
+turned-to-requires c κs = search needs
 
 returns : tie.Need-returns
-returns c = rw (sym (turned (c .before .before .before .before)) ∙ c .before .before .turn .given .1) (c .lookup-ends .ensures)
-
-returns-2 : tie.Need-returns-2
-returns-2 c = rw (sym (turned (c .before .before .before .before .before)) ∙ c .before .before .before .turn2 .given .1, lt-ltb _ _ (c .before .if1 .taken)) (c .goes-on .ensures)
-
-returns-3 : tie.Need-returns-3
-returns-3 c = rw (sym (turned (c .before .before .before .before .before)) ∙ c .before .before .before .turn2 .given .1, le-ltb _ _ (c .before .if1 .left)) (c .lookup-ends2 .ensures)
+returns c =
+    let a = c .before .before .before .before .before .before .before .before .args in
+    let op = a .op in
+    let need : c .before .before .before .need-of .result ≡ needOf (a .aim) (valueLent (op .lent)) = c .before .before .before .need-of .ensures ∙ ap (needOf (a .aim)) (c .before .before .before .before .value .ensures) in
+    let at : c .before .before .before .before .before .probe-at .result ≡ getD (probes (op .key) (op .n)) (a .i) 0 = c .before .before .before .before .before .probe-at .ensures .0 ∙ ap (λ (h : ℕ). getD (probe (op .n) h) (a .i) 0) (c .before .before .before .before .before .before .get-region .ensures .0) in
+    c .turned-to .ensures ∙ ap (turnedTo (a .aim) (op .n) (a .i)) (c .before .closed .ensures ∙ ap (closes (op .n) (a .i))
+    (c .before .before .take-turn .ensures ∙ (λ j. turnOf (a .seen) (op .key) (need j) (at j) (now (a .region)))))
 
 pub seek-next-spec : {M : Type 1} → statement M
 seek-next-spec =
@@ -73,15 +61,9 @@ seek-next-spec =
     (tie.spec
     get-region-requires
     probe-at-requires
+    value-requires
     need-of-requires
     take-turn-requires
-    enum-known-turn
-    lookup-ends-requires
-    enum-known-turn-2
-    add-if1
-    add-t18
-    goes-on-requires
-    lookup-ends-requires-2
-    returns
-    returns-2
-    returns-3)
+    closed-requires
+    turned-to-requires
+    returns)

@@ -1,10 +1,11 @@
--- `steps::lend::lay_new` meets its contract: the value that is written is append's, or none.
+-- `steps::lend::lay_new` meets its contract: the lent value, or none.
 -- Assumes nothing.
 use denote.Ref.{now}
-use Rattle.steps.proofs.Lends.{not-append}
+use Rattle.steps.proofs.Others.{not-value}
 use borrow.Author.Needs.{needs}
 use Rattle.steps.proofs.lend.lay_new.Statement.{statement}
 use Rattle.steps.proofs.lend.lay_new.Tie as tie
+use Rattle.region.proofs.lay_record.Reads as lay-record-reads
 
 enum-told : tie.Need-enum-told
 enum-told c = search needs
@@ -19,7 +20,7 @@ same-length : tie.Need-same-length
 same-length c = search needs
 
 returns : tie.Need-returns
-returns c = rw (not-append (c .before .before .before .before .before .before .before .before .args .job) (now (c .before .before .before .before .before .before .before .before .args .value)) (c .before .before .before .before .before .match .keys2)) (c .before .before .lay-record .ensures)
+returns c = rw (not-value (c .before .before .before .before .before .before .before .before .args .lent) (now (c .before .before .before .before .before .before .before .before .args .value)) (c .before .before .before .before .before .match .keys2)) (c .before .before .lay-record .ensures)
 
 lay-record-requires-2 : tie.Need-lay-record-requires-2
 lay-record-requires-2 c κs = rw (c .before .enum-told .given .1) at (c .before .before .before .before .before .pre)

@@ -1,39 +1,26 @@
 -- `stilefray::stepped::stilefray_step` meets its contract: numbers that stand for nothing alter nothing, and the others are steps'.
 -- Assumes nothing.
-use mathlib.Core.Path.{_≡_, sym, _∙_, ap}
+use mathlib.Core.Path.{sym, _∙_, ap}
 use denote.Ref.{now}
-use Rattle.stilefray.specs.declared.running.KnownOp.{KnownOp}
-use Rattle.stilefray.specs.declared.running.KnownReply.{KnownReply}
-use Rattle.stilefray.specs.Running.{unpacked, knownReply}
-use Rattle.stilefray.specs.Calls.{packedStep}
+use borrow.Author.Tests.{not-true, not-false}
+use Rattle.numbers.specs.Unpacks.{KnownOp}
+use Rattle.numbers.proofs.Back.{known, unknown}
+use Rattle.stilefray.specs.Stepped.{packedStep}
 use Rattle.stilefray.proofs.Called.{no-op, no-reply, fit}
 use borrow.Author.Needs.{needs}
 use Rattle.stilefray.proofs.stepped.stilefray_step.Statement.{statement}
 use Rattle.stilefray.proofs.stepped.stilefray_step.Tie as tie
 
--- what the numbers stand for
-runs : (c : tie.After-known-told2) → unpacked (c .before .before .before .before .before .before .before .before .before .before .before .args .op) ≡ KnownOp.Known (c .before .before .before .before .before .running .given .0 .0)
-runs c = sym (c .before .before .before .before .before .before .before .unpack .ensures) ∙ c .before .before .before .before .before .running .given .1
-
-said : (c : tie.After-known-told2) → knownReply (c .before .before .before .before .before .before .before .before .before .before .before .args .reply) ≡ KnownReply.Known (c .before .said .given .0 .0)
-said c = sym (c .before .before .before .known-reply .ensures) ∙ c .before .said .given .1
-
-unpack-requires : tie.Need-unpack-requires
-unpack-requires c κs = search needs
-
-enum-known-running : tie.Need-enum-known-running
-enum-known-running c = search needs
-
-enum-told : tie.Need-enum-told
-enum-told c = search needs
+stands-requires : tie.Need-stands-requires
+stands-requires c κs = search needs
 
 bad-call-requires : tie.Need-bad-call-requires
 bad-call-requires c κs = search needs
 
 returns : tie.Need-returns
 returns c =
-    let a = c .before .before .before .before .before .before .before .args in
-    let (t, r, l) = no-op (a .op) (a .reply) (now (a .region)) (now (a .value)) (now (a .buffer)) (sym (c .before .before .before .unpack .ensures) ∙ c .before .enum-told .given .1) in
+    let a = c .before .before .before .before .before .before .args in
+    let (t, r, l) = no-op (a .op) (a .reply) (now (a .region)) (now (a .value)) (now (a .buffer)) (unknown (a .op) (sym (c .before .before .stands .ensures) ∙ not-true _ (c .before .if1 .taken))) in
     (c .bad-call .ensures ∙ sym t, sym r, sym l)
 
 known-reply-requires : tie.Need-known-reply-requires
@@ -42,17 +29,20 @@ known-reply-requires c κs = search needs
 enum-known-said : tie.Need-enum-known-said
 enum-known-said c = search needs
 
-enum-told-2 : tie.Need-enum-told-2
-enum-told-2 c = search needs
+enum-told : tie.Need-enum-told
+enum-told c = search needs
 
 bad-call-requires-2 : tie.Need-bad-call-requires-2
 bad-call-requires-2 c κs = search needs
 
 returns-2 : tie.Need-returns-2
 returns-2 c =
-    let a = c .before .before .before .before .before .before .before .before .before .before .before .args in
-    let (t, r, l) = no-reply (a .op) (a .reply) (now (a .region)) (now (a .value)) (now (a .buffer)) (sym (c .before .before .before .known-reply .ensures) ∙ c .before .enum-told2 .given .1) in
+    let a = c .before .before .before .before .before .before .before .before .before .args in
+    let (t, r, l) = no-reply (a .op) (a .reply) (now (a .region)) (now (a .value)) (now (a .buffer)) (sym (c .before .before .before .known-reply .ensures) ∙ c .before .enum-told .given .1) in
     (c .bad-call2 .ensures ∙ sym t, sym r, sym l)
+
+read-as-requires : tie.Need-read-as-requires
+read-as-requires c κs = search needs
 
 step-requires : tie.Need-step-requires
 step-requires c κs = search needs
@@ -72,25 +62,26 @@ same-length-2 c = search needs
 returns-3 : tie.Need-returns-3
 returns-3 c =
     let d = c .before .before .before .before .before .before .before .before .before .before in
-    let a = d .before .before .before .before .before .before .before .before .before .before .before .args in
+    let a = d .before .before .before .before .before .before .before .before .before .before .args in
     let s = c .before .before .before .before .before .before .before .step .ensures in
-    let (t, r, l) = fit (a .op) (a .reply) (now (a .region)) (now (a .value)) (now (a .buffer)) _ _ (runs d) (said d) in
+    let runs = known (a .op) (sym (d .before .before .before .before .before .before .stands .ensures) ∙ not-false _ (d .before .before .before .before .before .if1 .left)) ∙ ap KnownOp.Known (sym (d .read-as .ensures)) in
+    let said = sym (d .before .before .before .before .known-reply .ensures) ∙ d .before .before .said .given .1 in
+    let (t, r, l) = fit (a .op) (a .reply) (now (a .region)) (now (a .value)) (now (a .buffer)) _ _ runs said in
     ((λ i. record { op = c .before .pack .ensures i; request = c .request-numbers .ensures i }) ∙ ap packedStep (s .0) ∙ sym t, s .1 ∙ sym r, s .2 ∙ sym l)
 
 pub stilefray-step-spec : {M : Type 1} → statement M
 stilefray-step-spec =
     tie.close
     (tie.spec
-    unpack-requires
-    enum-known-running
-    enum-told
+    stands-requires
     bad-call-requires
     returns
     known-reply-requires
     enum-known-said
-    enum-told-2
+    enum-told
     bad-call-requires-2
     returns-2
+    read-as-requires
     step-requires
     pack-requires
     request-numbers-requires

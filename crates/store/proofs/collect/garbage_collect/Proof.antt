@@ -6,8 +6,8 @@ use mathlib.Core.Path.{refl, sym, _∙_}
 use borrow.Author.Needs.{needs}
 use borrow.Author.Tests.{not-true, not-false}
 use Rattle.chip.proofs.Image.{region-inside, region-small}
-use Rattle.store.specs.Store.{collectOf}
-use Rattle.store.proofs.Sweep.{Swept, swept-start, swept-stands, swept-erase, swept-bad, swept-end}
+use Rattle.store.specs.Collect.{collectOf}
+use Rattle.store.proofs.Sweep.{Swept, swept-start, swept-judged, swept-stands, swept-erase, swept-bad, swept-end}
 use Rattle.store.proofs.collect.garbage_collect.Statement.{statement}
 use Rattle.store.proofs.collect.garbage_collect.Tie as tie
 
@@ -46,7 +46,7 @@ part-judge-end : tie.Need-part-judge-end Inv-loop μ-loop
 part-judge-end c = omega (arith, region-inside (c .before .before .loop .inv .fits) (c .before .if2 .left))
 
 judge-requires : tie.Need-judge-requires Inv-loop μ-loop
-judge-requires c κs = search needs
+judge-requires c κs = let d = c .before .before in swept-judged (d .before .loop .inv) (d .if2 .left)
 
 enum-told : tie.Need-enum-told Inv-loop μ-loop
 enum-told c = search needs
@@ -63,19 +63,8 @@ loop-again c = search (swept-stands, needs)
 enum-told-2 : tie.Need-enum-told-2 Inv-loop μ-loop
 enum-told-2 c = search needs
 
-sub-erase : tie.Need-sub-erase Inv-loop μ-loop
-sub-erase c = search needs
-
-part-erase-start : tie.Need-part-erase-start Inv-loop μ-loop
-part-erase-start c = search needs
-
-part-erase-end : tie.Need-part-erase-end Inv-loop μ-loop
-part-erase-end c =
-    let d = c .before .before .before .before .before in
-    omega (arith, region-inside (d .before .loop .inv .fits) (d .if2 .left))
-
-erase-requires : tie.Need-erase-requires Inv-loop μ-loop
-erase-requires c κs = search needs
+erase-region-requires : tie.Need-erase-region-requires Inv-loop μ-loop
+erase-region-requires c κs = let d = c .before .before .before .before .before .before in (d .before .loop .inv .fits, d .if2 .left)
 
 add-freed : tie.Need-add-freed Inv-loop μ-loop
 add-freed c =
@@ -132,10 +121,7 @@ garbage-collect-spec =
     loop-less
     loop-again
     enum-told-2
-    sub-erase
-    part-erase-start
-    part-erase-end
-    erase-requires
+    erase-region-requires
     add-freed
     add-r-2
     loop-less-2

@@ -1,9 +1,12 @@
 -- `store::read::copy_value` meets its contract: what is copied is the front of the value, as much of it as the buffer takes.
 -- Assumes nothing.
-use borrow.Author.Needs.{needs}
 use Rattle.store.proofs.Values.{copied-front, copied-whole}
+use borrow.Author.Needs.{needs}
 use Rattle.store.proofs.read.copy_value.Statement.{statement}
 use Rattle.store.proofs.read.copy_value.Tie as tie
+
+add-from : tie.Need-add-from
+add-from c = search needs
 
 sub-len : tie.Need-sub-len
 sub-len c = search needs
@@ -54,6 +57,7 @@ pub copy-value-spec : {M : Type 1} → statement M
 copy-value-spec =
     tie.close
     (tie.spec
+    add-from
     sub-len
     add-copy
     sub-copy

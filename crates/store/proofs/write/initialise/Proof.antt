@@ -7,7 +7,8 @@ use mathlib.Core.List.{List, []}
 use borrow.Author.Tests.{not-true, not-false}
 use denote.Ref.{now}
 use Rattle.chip.specs.Chip.{erased}
-use Rattle.store.specs.Store.{appendOf, startsAnew, initialiseOf}
+use Rattle.store.specs.Write.{appendOf, initialiseOf}
+use Rattle.plans.specs.Answers.{startsAnew}
 use Rattle.store.proofs.Anew.{anew-fits}
 use borrow.Author.Needs.{needs}
 use Rattle.store.proofs.write.initialise.Statement.{statement}

@@ -1,0 +1,5 @@
+pub mod Answered
+pub mod Back
+pub mod Own
+pub mod Standing
+pub mod Theorems

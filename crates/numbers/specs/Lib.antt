@@ -1,0 +1,3 @@
+pub mod Answers
+pub mod Packs
+pub mod Unpacks

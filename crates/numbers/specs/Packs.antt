@@ -1,0 +1,193 @@
+-- A running operation in numbers: "a running operation is plain data". What a kind does not use is 0.
+use Prim.Native.Nat.{ℕ}
+use mathlib.Core.Path.{_≡_}
+use mathlib.Core.Bool.{Bool, true, false, cond}
+use Rattle.region.specs.declared.Record.{Record}
+use Rattle.region.specs.declared.Removal.{Removal}
+use Rattle.lookup.specs.declared.Room.{Room}
+use Rattle.lookup.specs.declared.Seen.{Seen}
+use Rattle.lookup.specs.Refusals.{number}
+use Rattle.plans.specs.declared.Answer.{Answer}
+use Rattle.plans.specs.declared.Answer.the-variants.{Complete, Written, Freed, Refused}
+use Rattle.plans.specs.declared.Aim.{Aim}
+use Rattle.plans.specs.declared.Lent.{Lent}
+use Rattle.plans.specs.declared.Edit.{Edit}
+use Rattle.plans.specs.declared.Edits.{Edits}
+use Rattle.plans.specs.declared.First.{First}
+use Rattle.plans.specs.declared.Then.{Then}
+use Rattle.plans.specs.declared.Plan.{Plan}
+use Rattle.plans.specs.Writes.{first}
+use Rattle.running.specs.declared.Op.{Op}
+use Rattle.running.specs.declared.Start.{Start}
+use Rattle.numbers.specs.declared.COperation.{COperation}
+use Rattle.numbers.specs.declared.CStart.{CStart}
+use Rattle.numbers.specs.declared.packs.Slot.{Slot}
+use Rattle.numbers.specs.declared.packs.Next.{Next}
+
+-- What is lent, and its length.
+abbrev pub lentNumber : Lent → ℕ
+lentNumber Lent.Nothing = 0
+lentNumber (Lent.Value len) = 1
+lentNumber (Lent.Buffer len) = 2
+
+abbrev pub lentLength : Lent → ℕ
+lentLength Lent.Nothing = 0
+lentLength (Lent.Value len) = len
+lentLength (Lent.Buffer len) = len
+
+-- An edit: 1 lay, 2 invalidate, 3 zeroise, 4 erase; 5 a run of erases, from a region up to another.
+
+-- one with no record in it
+abbrev pub slotAt : ℕ → ℕ → ℕ → Slot
+slotAt edit region at = record { edit = edit; version = 0; flags = 0; region = region; at = at; size = 0; found = 0 }
+
+abbrev pub noSlot : Slot
+noSlot = slotAt 0 0 0
+
+abbrev pub killNumber : Removal → ℕ
+killNumber Removal.Invalidate = 2
+killNumber Removal.Zeroise = 3
+
+abbrev pub editNumbers : Edit → Slot
+editNumbers (Edit.Lay r o) = slotAt 1 r o
+editNumbers (Edit.Kill how r x) =
+    record { edit = killNumber how; version = x .version; flags = x .flags; region = r; at = x .at; size = x .len; found = x .key }
+editNumbers (Edit.Erase r) = slotAt 4 r 0
+
+-- The edits that are left. There are numbers for one, or a run of erases: no plan of today waits with more.
+abbrev pub few : Edits → Bool
+few Edits.Nil = true
+few (Edits.One e) = true
+few (Edits.Two e f) = false
+few (Edits.Three e f g) = false
+few (Edits.Erases i m) = true
+
+abbrev pub slotOf : Edits → Slot
+slotOf Edits.Nil = noSlot
+slotOf (Edits.One e) = editNumbers e
+slotOf (Edits.Two e f) = noSlot
+slotOf (Edits.Three e f g) = noSlot
+slotOf (Edits.Erases i m) = slotAt 5 i m
+
+-- What follows them: 1 seek, 2 sweep, 3 complete, 4 written, 5 freed. What the rule lets no operation rest before, a value that is to be given and a
+-- refusal after an edit, is 0: nothing that runs.
+abbrev pub nextAt : ℕ → ℕ → ℕ → Next
+nextAt next a b = record { next = next; aim = 0; tag = 0; a = a; b = b; c = 0 }
+
+abbrev pub aimNumber : Aim → ℕ
+aimNumber Aim.Get = 1
+aimNumber Aim.Append = 2
+aimNumber (Aim.Remove Removal.Invalidate) = 3
+aimNumber (Aim.Remove Removal.Zeroise) = 4
+aimNumber Aim.Initialise = 5
+
+-- a lookup's aim, its index in the probe order, and the room that it has gathered: 0 none, 1 room that is not blank, 2 blank room
+abbrev pub seekNumbers : Aim → ℕ → Room → Next
+seekNumbers aim i Room.Nowhere = record { next = 1; aim = aimNumber aim; tag = 0; a = i; b = 0; c = 0 }
+seekNumbers aim i (Room.At r o blank) = record { next = 1; aim = aimNumber aim; tag = cond blank 2 1; a = i; b = r; c = o }
+
+abbrev pub endNumbers : Answer → Next
+endNumbers (Complete len) = nextAt 3 len 0
+endNumbers Written = nextAt 4 0 0
+endNumbers (Freed bytes) = nextAt 5 bytes 0
+endNumbers (Refused w) = nextAt 0 0 0
+
+abbrev pub nextNumbers : Then → Next
+nextNumbers (Then.Ends answer) = endNumbers answer
+nextNumbers (Then.Seek aim i seen) = seekNumbers aim i (seen .room)
+nextNumbers (Then.Sweep r k) = nextAt 2 r k
+nextNumbers (Then.Gives r x anew) = nextAt 0 0 0
+
+-- Nothing is left but an answer.
+abbrev pub isNothing : First → Bool
+isNothing First.Nothing = true
+isNothing (First.Do e) = false
+
+abbrev pub overAfter : Edits → Then → Bool
+overAfter es (Then.Ends answer) = isNothing (first es)
+overAfter es (Then.Seek aim i seen) = false
+overAfter es (Then.Sweep r k) = false
+overAfter es (Then.Gives r x anew) = false
+
+abbrev pub over : Plan → Bool
+over p = overAfter (p .edits) (p .next)
+
+abbrev pub freshNumber : Bool → ℕ
+freshNumber fresh = cond fresh 1 0
+
+-- an operation, with these numbers for its plan; 8 is the number of this layout
+abbrev pub inNumbers : Op → Slot → Next → COperation
+inNumbers op slot next = record {
+  layout = 8;
+  fresh = freshNumber (op .fresh);
+  lent = lentNumber (op .lent);
+  edit = slot .edit;
+  next = next .next;
+  aim = next .aim;
+  tag = next .tag;
+  version = slot .version;
+  flags = slot .flags;
+  s = op .s;
+  n = op .n;
+  key = op .key;
+  len = lentLength (op .lent);
+  region = slot .region;
+  at = slot .at;
+  size = slot .size;
+  found = slot .found;
+  a = next .a;
+  b = next .b;
+  c = next .c;
+}
+
+-- A running operation in numbers. One that has ended keeps none of its plan, whose answer was given: 6. More edits than there are numbers for are
+-- nothing that runs.
+unfoldable pub packed : Op → COperation
+packed op =
+    cond (over (op .plan)) (inNumbers op noSlot (nextAt 6 0 0))
+    (cond (few (op .plan .edits)) (inNumbers op (slotOf (op .plan .edits)) (nextNumbers (op .plan .next)))
+    (inNumbers op noSlot (nextAt 0 0 0)))
+
+-- no operation
+abbrev pub noOperation : COperation
+noOperation = record {
+  layout = 0;
+  fresh = 0;
+  lent = 0;
+  edit = 0;
+  next = 0;
+  aim = 0;
+  tag = 0;
+  version = 0;
+  flags = 0;
+  s = 0;
+  n = 0;
+  key = 0;
+  len = 0;
+  region = 0;
+  at = 0;
+  size = 0;
+  found = 0;
+  a = 0;
+  b = 0;
+  c = 0;
+}
+
+-- A start hands out a running operation, or refuses by number and hands out none.
+abbrev pub startNumbers : Start → CStart
+startNumbers (Start.Runs op) = record { refusal = 0; op = packed op }
+startNumbers (Start.Refused w) = record { refusal = number w; op = noOperation }
+
+-- What a start hands out looks at a region first: no edit is left to do, and no answer is at hand.
+pub record Looks (op : Op) : Type 0 where
+  pub no-edit : op .plan .edits ≡ Edits.Nil
+  pub goes-on : over (op .plan) ≡ false
+
+abbrev pub startLooks : Start → Type 0
+startLooks (Start.Runs op) = Looks op
+startLooks (Start.Refused w) = Unit {0}
+
+-- what a start hands out, if anything, has numbers
+abbrev pub startFew : Start → Bool
+startFew (Start.Runs op) = few (op .plan .edits)
+startFew (Start.Refused w) = true

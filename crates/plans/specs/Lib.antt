@@ -1,0 +1,5 @@
+pub mod Answers
+pub mod Writes
+pub mod Fits
+pub mod Planning
+pub mod Sweeps

@@ -1,0 +1,103 @@
+-- What is lent to an operation; edits: what one writes or erases, and a list of them.
+use Prim.Native.Nat.{ℕ, _+_, _-_, _*_}
+use mathlib.Core.Bool.{Bool, cond}
+use mathlib.Core.List.{List, [], _∷_, map}
+use lib.Dec.{ltb}
+use lib.ListN.{length}
+use lib.Seq.{sets}
+use Rattle.chip.specs.Chip.{written}
+use Rattle.chip.specs.Geometry.{eraseRegion, numbers}
+use Rattle.region.specs.declared.Record.{Record}
+use Rattle.region.specs.declared.Removal.{Removal}
+use Rattle.region.specs.Layout.{recordLength, recordBytes, killPlace, killLength, killBytes}
+use Rattle.plans.specs.declared.Lent.{Lent}
+use Rattle.plans.specs.declared.Edit.{Edit}
+use Rattle.plans.specs.declared.Edits.{Edits}
+use Rattle.plans.specs.declared.First.{First}
+
+-- What is lent.
+
+-- the length of the value: what is lent none appends an empty one
+abbrev pub valueLent : Lent → ℕ
+valueLent Lent.Nothing = 0
+valueLent (Lent.Value len) = len
+valueLent (Lent.Buffer len) = 0
+
+-- the value itself
+abbrev pub valueOf : Lent → List ℕ → List ℕ
+valueOf Lent.Nothing value = []
+valueOf (Lent.Value len) value = value
+valueOf (Lent.Buffer len) value = []
+
+-- the length of the buffer: what is lent none reads into an empty one
+abbrev pub bufferLent : Lent → ℕ
+bufferLent Lent.Nothing = 0
+bufferLent (Lent.Value len) = 0
+bufferLent (Lent.Buffer len) = len
+
+-- An edit.
+
+abbrev pub inRegion : Edit → ℕ
+inRegion (Edit.Lay r o) = r
+inRegion (Edit.Kill how r x) = r
+inRegion (Edit.Erase r) = r
+
+-- where in its region its bytes begin
+abbrev pub startOf : Edit → ℕ
+startOf (Edit.Lay r o) = o
+startOf (Edit.Kill how r x) = killPlace how x
+startOf (Edit.Erase r) = 0
+
+-- its bytes, of the call (key and value) and the record, and never of what the region holds; an erase has none
+abbrev pub bytesOf : ℕ → List ℕ → Edit → List ℕ
+bytesOf key value (Edit.Lay r o) = recordBytes key value
+bytesOf key value (Edit.Kill how r x) = killBytes how x
+bytesOf key value (Edit.Erase r) = []
+
+-- how many they are, for a value of so many bytes
+abbrev pub sizeOf : ℕ → Edit → ℕ
+sizeOf len (Edit.Lay r o) = recordLength len
+sizeOf len (Edit.Kill how r x) = killLength how x
+sizeOf len (Edit.Erase r) = 0
+
+-- What it makes of an image: one AND-write, or one erase.
+abbrev pub wrote : ℕ → ℕ → List ℕ → Edit → List ℕ → List ℕ
+wrote s key value e image = written image (inRegion e * s + startOf e) (bytesOf key value e)
+
+abbrev pub edited : ℕ → ℕ → List ℕ → Edit → List ℕ → List ℕ
+edited s key value (Edit.Lay r o) image = wrote s key value (Edit.Lay r o) image
+edited s key value (Edit.Kill how r x) image = wrote s key value (Edit.Kill how r x) image
+edited s key value (Edit.Erase r) image = eraseRegion s r image
+
+-- "Bytes to write lie in the buffer at their own place in the region; the rest stays as last read."
+abbrev pub laidIn : ℕ → List ℕ → Edit → List ℕ → List ℕ
+laidIn key value e region = sets region (startOf e) (bytesOf key value e)
+
+-- A list of edits.
+
+abbrev pub listed : Edits → List Edit
+listed Edits.Nil = []
+listed (Edits.One e) = e ∷ []
+listed (Edits.Two e f) = e ∷ f ∷ []
+listed (Edits.Three e f g) = e ∷ f ∷ g ∷ []
+listed (Edits.Erases i m) = map Edit.Erase (numbers i (m - i))
+
+-- one after the other
+unfoldable pub applied : ℕ → ℕ → List ℕ → List Edit → List ℕ → List ℕ
+applied s key value [] image = image
+applied s key value (e ∷ es) image = applied s key value es (edited s key value e image)
+
+-- the first that is left to do, and the others
+abbrev pub first : Edits → First
+first Edits.Nil = First.Nothing
+first (Edits.One e) = First.Do e
+first (Edits.Two e f) = First.Do e
+first (Edits.Three e f g) = First.Do e
+first (Edits.Erases i m) = cond (ltb i m) (First.Do (Edit.Erase i)) First.Nothing
+
+abbrev pub rest : Edits → Edits
+rest Edits.Nil = Edits.Nil
+rest (Edits.One e) = Edits.Nil
+rest (Edits.Two e f) = Edits.One f
+rest (Edits.Three e f g) = Edits.Two f g
+rest (Edits.Erases i m) = cond (ltb i m) (Edits.Erases (i + 1) m) Edits.Nil

@@ -1,0 +1,103 @@
+// A running operation: plain data that says what is left to do, how it is started, what it waits for, and the written rule that it keeps.
+mod rule;
+mod starts;
+mod waits;
+
+pub use rule::call_fits;
+pub use rule::keeps_rule;
+pub use starts::start_append;
+pub use starts::start_collect;
+pub use starts::start_get;
+pub use starts::start_initialise;
+pub use starts::start_invalidate;
+pub use starts::start_zeroise;
+pub use waits::request_of;
+pub use waits::wait_of;
+ghost use mathlib.Core.Path.{_≡_};
+ghost use Rattle.running.specs.Starts.{started};
+ghost use Rattle.running.specs.Waits.{withPlan};
+use lookup::Refusal;
+use plans::Answer;
+use plans::Edit;
+use plans::Lent;
+use plans::Plan;
+
+// A running operation on a chip of n regions of s bytes: what is lent to it, and what is left of its plan. A fresh one has asked for nothing yet.
+pub struct Op {
+    pub s: usize,
+    pub n: usize,
+    pub key: u64,
+    pub lent: Lent,
+    pub fresh: bool,
+    pub plan: Plan,
+}
+
+impl Op {
+    // A fresh running operation.
+    pub fn new(s: usize, n: usize, key: u64, lent: Lent, plan: Plan) -> Op
+        ensures { λ r. ⌜ r ≡ started s n key lent plan ⌝ }
+    {
+        Op {
+            s,
+            n,
+            key,
+            lent,
+            fresh: true,
+            plan,
+        }
+    }
+
+    // The operation with this left to do.
+    pub fn with_plan(self, plan: Plan) -> Op
+        ensures { λ r. ⌜ r ≡ withPlan self plan ⌝ }
+    {
+        let lent = self.lent;
+        Op {
+            s: self.s,
+            n: self.n,
+            key: self.key,
+            lent,
+            fresh: false,
+            plan,
+        }
+    }
+}
+
+// A start hands out a running operation, or refuses at once and runs nothing.
+pub enum Start {
+    Runs(Op),
+    Refused(Refusal),
+}
+
+// What the host says of the service that was asked for last.
+pub enum Reply {
+    Begin,
+    Done,
+    NotReady,
+    Failed,
+}
+
+// What an operation waits for: the first step, a region that is read, an edit; or nothing more.
+pub enum Wait {
+    Begin,
+    Read(usize),
+    Edit(Edit),
+    Over(Answer),
+}
+
+// What a step asks of the host: to read a region into the buffer, to write the buffer's bytes from a place up to another at an image place,
+// or to erase a region; or its answer.
+pub enum Request {
+    Read {
+        region: usize,
+    },
+    Write {
+        from: usize,
+        to: usize,
+        place: usize,
+    },
+    Erase {
+        region: usize,
+    },
+    Answers(Answer),
+}

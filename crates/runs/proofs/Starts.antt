@@ -1,0 +1,106 @@
+-- What a start hands out: the fresh operation of a call's key, of what is lent for it and of what it begins with. And what an operation that keeps the
+-- rule asks for: it lies in the chip.
+-- Assumes nothing.
+use Prim.Native.Nat.{ℕ, _+_, _≤_, _<_}
+use native.Mathlib.Nat.{le-add-right}
+use native.Mathlib.Omega.{arith}
+use mathlib.Core.Path.{_≡_, refl, sym, _∙_}
+use mathlib.Core.Bool.{Bool, true, false, cond}
+use mathlib.Core.Option.{Option, none, some}
+use lib.ListN.{length}
+use Rattle.probe.proofs.Theorems.{in-range}
+use Rattle.lookup.specs.declared.refusals.Check.{Check}
+use Rattle.plans.specs.declared.Aim.{Aim}
+use Rattle.plans.specs.declared.Lent.{Lent}
+use Rattle.plans.specs.declared.Edit.{Edit}
+use Rattle.plans.specs.declared.First.{First}
+use Rattle.plans.specs.declared.Then.{Then}
+use Rattle.plans.specs.Writes.{valueLent, inRegion, startOf as beginsAt, sizeOf, first}
+use Rattle.plans.specs.Fits.{thenFits}
+use Rattle.plans.specs.Planning.{follows, look}
+use Rattle.plans.proofs.Facts.{edit-facts, edits-facts, seek-facts, sweep-facts}
+use Rattle.store.specs.Call.{Call, get, append, remove, collect, initialise, aimOf}
+use Rattle.running.specs.declared.Op.{Op}
+use Rattle.running.specs.declared.Start.{Start}
+use Rattle.running.specs.declared.Wait.{Wait}
+use Rattle.running.specs.Starts.{started, startRefusal, startedOr}
+use Rattle.running.specs.Waits.{waitNext, waitFirst, requestEdit, requestFor, requestOf}
+use Rattle.running.specs.Rule.{Ruled}
+use Rattle.running.proofs.Rules.{plan-of, look-ruled, collect-ruled}
+use Rattle.runs.specs.Host.{Inside, reads, writes, erases, answers, startOf}
+
+-- The key of a call, what is lent for it and what it begins with. Collect has no key: its operation carries 1.
+abbrev pub keyOf : Call → ℕ
+keyOf (get key buffer) = key
+keyOf (append key value) = key
+keyOf (remove how key) = key
+keyOf collect = 1
+keyOf (initialise key) = key
+
+abbrev pub lentOf : Call → Lent
+lentOf (get key buffer) = Lent.Buffer (length buffer)
+lentOf (append key value) = Lent.Value (length value)
+lentOf (remove how key) = Lent.Nothing
+lentOf collect = Lent.Nothing
+lentOf (initialise key) = Lent.Nothing
+
+-- with its lookup, or with the sweep of the first region
+abbrev beginsWith : Option Aim → Then
+beginsWith (some aim) = look aim
+beginsWith none = Then.Sweep 0 0
+
+abbrev pub firstOf : Call → Then
+firstOf c = beginsWith (aimOf c)
+
+abbrev pub freshOf : Call → ℕ → ℕ → Op
+freshOf c s n = started s n (keyOf c) (lentOf c) (follows (firstOf c))
+
+-- Every start is of one form, and hands out what keeps the rule.
+pub starts-so : (c : Call) (s n : ℕ) → startOf c s n ≡ startedOr (freshOf c s n) (startRefusal s n (keyOf c) (valueLent (lentOf c)))
+starts-so (get key buffer) s n = refl
+starts-so (append key value) s n = refl
+starts-so (remove how key) s n = refl
+starts-so collect s n = refl
+starts-so (initialise key) s n = refl
+
+pub start-ruled : (c : Call) (s n : ℕ) {op : Op} → startOf c s n ≡ Start.Runs op → Ruled op
+start-ruled (get key buffer) s n h = look-ruled _ s n key (Lent.Buffer (length buffer)) refl h
+start-ruled (append key value) s n h = look-ruled _ s n key (Lent.Value (length value)) refl h
+start-ruled (remove how key) s n h = look-ruled _ s n key Lent.Nothing refl h
+start-ruled collect s n h = collect-ruled s n h
+start-ruled (initialise key) s n h = look-ruled _ s n key Lent.Nothing refl h
+
+pub record Runs (c : Call) (s n : ℕ) (op : Op) : Type 0 where
+  pub is : op ≡ freshOf c s n
+  pub fine : startRefusal s n (keyOf c) (valueLent (lentOf c)) ≡ Check.Fine
+
+pub start-runs : (c : Call) (s n : ℕ) (op : Op) → startOf c s n ≡ Start.Runs op → Runs c s n op
+start-runs c s n op h = go (startRefusal s n (keyOf c) (valueLent (lentOf c))) refl (sym (starts-so c s n) ∙ h)
+  where
+    go : (check : Check) → startRefusal s n (keyOf c) (valueLent (lentOf c)) ≡ check → startedOr (freshOf c s n) check ≡ Start.Runs op → Runs c s n op
+    go Check.Fine e h = record { is = let same : op ≡ freshOf c s n = cc in same; fine = e }
+    go (Check.Refused w) e h = absurd (let z : _≡_ {A = ℕ} 0 1 = cc in omega arith)
+
+-- What is asked for lies in the chip.
+
+edit-asks : (s n len : ℕ) (e : Edit) → (inRegion e < n) × (beginsAt e + sizeOf len e ≤ s) → Inside s n (requestEdit s len e)
+edit-asks s n len (Edit.Lay r o) (number, fits) = writes r number (le-add-right _ _) fits
+edit-asks s n len (Edit.Kill how r x) (number, fits) = writes r number (le-add-right _ _) fits
+edit-asks s n len (Edit.Erase r) (number, fits) = erases number
+
+next-asks : (s n key : ℕ) (lent : Lent) (next : Then) → thenFits s n lent next ≡ true → Inside s n (requestFor s (valueLent lent) (waitNext key n next))
+next-asks s n key lent (Then.Ends answer) h = answers
+next-asks s n key lent (Then.Seek aim i seen) h = reads (in-range key n i (seek-facts s n lent aim i seen h .1))
+next-asks s n key lent (Then.Sweep r k) h = reads (sweep-facts s n lent r k h .0)
+next-asks s n key lent (Then.Gives r x anew) h = answers
+
+pub inside : (op : Op) → Ruled op → Inside (op .s) (op .n) (requestOf op)
+inside op k = go (op .fresh) (first (op .plan .edits)) refl
+  where
+    go : (t : Bool) (f : First) → first (op .plan .edits) ≡ f
+        → Inside (op .s) (op .n) (requestFor (op .s) (valueLent (op .lent)) (cond t Wait.Begin (waitFirst (op .key) (op .n) f (op .plan .next))))
+    go true f e = answers
+    go false First.Nothing e = next-asks (op .s) (op .n) (op .key) (op .lent) (op .plan .next) (plan-of op k .next-good)
+    go false (First.Do d) e =
+        edit-asks (op .s) (op .n) (valueLent (op .lent)) d
+        (edit-facts (op .s) (op .n) (valueLent (op .lent)) d (edits-facts (op .s) (op .n) (valueLent (op .lent)) (op .plan .edits) (plan-of op k .edits-good) e .0))

@@ -1,0 +1,41 @@
+-- One step in numbers: steps' `stepped`, `regionAfter` and `bufferAfter` on what the numbers stand for.
+use Prim.Native.Nat.{ℕ}
+use mathlib.Core.List.{List}
+use Rattle.lookup.specs.declared.refusals.Refusal.{Refusal}
+use Rattle.plans.specs.declared.Answer.the-variants.{Refused}
+use Rattle.running.specs.declared.Op.{Op}
+use Rattle.running.specs.declared.Reply.{Reply}
+use Rattle.running.specs.declared.Request.{Request}
+use Rattle.steps.specs.declared.Stepped.{Stepped}
+use Rattle.steps.specs.Step.{stepped, regionAfter, bufferAfter}
+use Rattle.numbers.specs.declared.COperation.{COperation}
+use Rattle.numbers.specs.declared.CStepped.{CStepped}
+use Rattle.numbers.specs.declared.unpacks.KnownReply.{KnownReply}
+use Rattle.numbers.specs.Answers.{requestNumbers}
+use Rattle.numbers.specs.Packs.{packed}
+use Rattle.numbers.specs.Unpacks.{KnownOp, unpacked, knownReply}
+
+-- "BadCall leaves the running operation as it was": all its numbers.
+abbrev pub badCall : COperation → CStepped
+badCall o = record { op = o; request = requestNumbers (Request.Answers (Refused Refusal.BadCall)) }
+
+abbrev pub packedStep : Stepped → CStepped
+packedStep t = record { op = packed (t .op); request = requestNumbers (t .request) }
+
+-- Numbers that stand for no running operation or no reply are BadCall, and alter nothing.
+abbrev pub onKnown : {A : Type 0} → A → (Op → Reply → A) → KnownOp → KnownReply → A
+onKnown other runs KnownOp.Unknown y = other
+onKnown other runs (KnownOp.Known op) KnownReply.Unknown = other
+onKnown other runs (KnownOp.Known op) (KnownReply.Known y) = runs op y
+
+unfoldable pub stepNumbers : COperation → ℕ → List ℕ → List ℕ → List ℕ → CStepped
+stepNumbers o reply region value buffer =
+    onKnown (badCall o) (λ op y. packedStep (stepped op y region value buffer)) (unpacked o) (knownReply reply)
+
+unfoldable pub stepRegion : COperation → ℕ → List ℕ → List ℕ → List ℕ → List ℕ
+stepRegion o reply region value buffer =
+    onKnown region (λ op y. regionAfter op y region value buffer) (unpacked o) (knownReply reply)
+
+unfoldable pub stepBuffer : COperation → ℕ → List ℕ → List ℕ → List ℕ → List ℕ
+stepBuffer o reply region value buffer =
+    onKnown buffer (λ op y. bufferAfter op y region value buffer) (unpacked o) (knownReply reply)

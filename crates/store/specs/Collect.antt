@@ -1,0 +1,25 @@
+-- Collect in one call: for any image, S and N, what it answers and leaves.
+use Prim.Native.Nat.{ℕ, _+_}
+use mathlib.Core.Bool.{cond}
+use mathlib.Core.List.{List, [], _∷_}
+use Rattle.chip.specs.Geometry.{geometry, regionOf, eraseRegion, numbers}
+use Rattle.lookup.specs.declared.refusals.Refusal.{Refusal}
+use Rattle.lookup.specs.Refusals.{refusalOf}
+use Rattle.plans.specs.declared.Answer.the-variants.{Freed}
+use Rattle.plans.specs.declared.Verdict.{Verdict}
+use Rattle.plans.specs.Sweeps.{verdict}
+use Rattle.store.specs.Write.{Done, refused}
+
+-- the regions of a list in its order, with so many bytes freed before them. "A bad place ends the call with its refusal; regions before it are
+-- already collected, it and later ones stand."
+unfoldable pub collectIn : ℕ → List ℕ → ℕ → List ℕ → Done
+collectIn s image freed [] = record { answer = Freed freed; image = image }
+collectIn s image freed (r ∷ rs) = elim (verdict r (regionOf s image r)) [
+  | Verdict.Stands ↦ collectIn s image freed rs
+  | Verdict.Erase ↦ collectIn s (eraseRegion s r image) (freed + s) rs
+  | Verdict.Bad f p ↦ refused (refusalOf f) image
+]
+
+-- "Regions 0 to N-1 in number order."
+unfoldable pub collectOf : List ℕ → ℕ → ℕ → Done
+collectOf image s n = cond (geometry image s n) (collectIn s image 0 (numbers 0 n)) (refused Refusal.BadGeometry image)
