@@ -5,8 +5,8 @@ use Rattle.crc32.specs.Crc.{shift, shifts, feed, run, checksum}
 use Rattle.chip.specs.Chip.{written, isBlank}
 use Rattle.chip.specs.Geometry.{sized, geometry, numbers}
 use Rattle.probe.specs.Probe.{keep, around, outward, probe}
-use Rattle.region.specs.Layout.{bigEndian, littleEndian, recordBytes, checkSumFits}
-use Rattle.region.specs.Walk.{bigEndianAt, metOf, walkIn, walkFrom, firstOf}
+use Rattle.format.specs.Layout.{bigEndian, littleEndian, recordBytes, checkSumFits, bigEndianAt}
+use Rattle.region.specs.Walk.{metOf, walkIn, walkFrom, firstOf}
 use Rattle.lookup.specs.Refusals.{firstRefusal}
 use Rattle.lookup.specs.Turns.{lookFrom, hitOf}
 use Rattle.plans.specs.Writes.{applied}

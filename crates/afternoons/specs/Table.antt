@@ -4,8 +4,8 @@ use mathlib.Core.List.{List, [], _∷_, _++_}
 use lib.ListN.{take, drop, set, replicate}
 use Rattle.chip.specs.Chip.{written, erased}
 use Rattle.probe.specs.Probe.{probes}
-use Rattle.region.specs.declared.Removal.{Removal}
-use Rattle.region.specs.Layout.{recordBytes}
+use Rattle.format.specs.declared.Removal.{Removal}
+use Rattle.format.specs.Layout.{recordBytes}
 use Rattle.lookup.specs.declared.Hit.{Hit}
 use Rattle.lookup.specs.Turns.{hitOf}
 use Rattle.plans.specs.declared.Answer.{Answer}

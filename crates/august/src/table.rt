@@ -2,7 +2,7 @@
 use crate::flash;
 use crate::print;
 use region::Met;
-use region::Record;
+use format::Record;
 use region::Stop;
 ghost use mathlib.Core.Path.{_≡_};
 ghost use Prim.Native.Nat.{_≤_};

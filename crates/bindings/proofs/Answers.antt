@@ -10,8 +10,8 @@ use borrow.Author.Tests.{lt-ltb, le-ltb}
 use Rattle.chip.specs.Geometry.{Fits, regionOf}
 use Rattle.chip.proofs.Image.{fits-geometry}
 use Rattle.probe.specs.Probe.{allowedKey, probes}
-use Rattle.region.specs.declared.Record.{Record}
-use Rattle.region.specs.Layout.{recordLength, checkSumFits}
+use Rattle.format.specs.declared.Record.{Record}
+use Rattle.format.specs.Layout.{recordLength, checkSumFits}
 use Rattle.region.specs.Walk.{bytesIn, valueLength, valueIn}
 use Rattle.lookup.specs.declared.refusals.Refusal.{Refusal}
 use Rattle.lookup.specs.declared.refusals.Check.{Check}

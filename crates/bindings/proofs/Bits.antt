@@ -13,7 +13,7 @@ use Rattle.chip.specs.Geometry.{Fits, geometry, regionOf, eraseRegion, numbers}
 use Rattle.chip.proofs.Lists.{Every}
 use Rattle.chip.proofs.Image.{geometry-fits, fits-erased, region-erased-same, region-erased-other}
 use Rattle.chip.proofs.Theorems.{write-clears}
-use Rattle.region.specs.declared.Removal.{Removal}
+use Rattle.format.specs.declared.Removal.{Removal}
 use Rattle.lookup.specs.declared.refusals.Refusal.{Refusal}
 use Rattle.plans.specs.declared.Verdict.{Verdict}
 use Rattle.plans.specs.Sweeps.{verdict}

@@ -8,11 +8,11 @@ use mathlib.Core.Logic.{inl, inr, ⊎-elim}
 use mathlib.Core.List.{List, [], _∷_, _++_, append-assoc, List·Memᴰ, List·Memᴰ·not-nil, List·Memᴰ·eq-of-singleton, Memᴰ·append-left, Memᴰ·append-right, List·Memᴰ·append-cases, List·Memᴰ·head}
 use lib.ListN.{length}
 use Rattle.chip.specs.Chip.{Bytes, written, erased}
-use Rattle.region.specs.declared.Record.{Record}
+use Rattle.format.specs.declared.Record.{Record}
 use Rattle.region.specs.declared.Want.{Want}
-use Rattle.region.specs.declared.Removal.{Removal}
-use Rattle.region.specs.Layout.{recordLength, recordBytes}
-use Rattle.region.specs.Walk.{live, View, records, recordOf, dead, isWanted}
+use Rattle.format.specs.declared.Removal.{Removal}
+use Rattle.format.specs.Layout.{recordLength, recordBytes, live}
+use Rattle.region.specs.Walk.{View, records, recordOf, dead, isWanted}
 use Rattle.region.proofs.Search.{None}
 use Rattle.region.proofs.Theorems.{records-within, records-apart, blank-region, dead-not-live}
 use Rattle.pinned.proofs.Swept.{every-member}

@@ -18,10 +18,11 @@ use Rattle.chip.proofs.Laws.{bytes-cons}
 use Rattle.chip.proofs.Theorems.{write-clears}
 use Rattle.chip.proofs.Image.{region-written-same, region-written-other, region-erased-same, region-erased-other, fits-written, fits-erased, erased-regions, fits-blank}
 use Rattle.probe.specs.Probe.{allowedKey}
-use Rattle.region.specs.declared.Record.{Record}
+use Rattle.format.specs.declared.Record.{Record}
 use Rattle.region.specs.declared.Stop.{Stop}
-use Rattle.region.specs.Walk.{live, View, records, bytesIn}
-use Rattle.region.proofs.Numbers.{no-bytes}
+use Rattle.format.specs.Layout.{live}
+use Rattle.region.specs.Walk.{View, records, bytesIn}
+use Rattle.format.proofs.Numbers.{no-bytes}
 use Rattle.region.proofs.Theorems.{blank-region}
 use Rattle.pinned.proofs.Swept.{every-member}
 use Rattle.bindings.specs.WellFormed.{Stored, Live, WellFormed}

@@ -12,13 +12,13 @@ use Rattle.chip.specs.Chip.{Bytes, written, erased, isBlank}
 use Rattle.chip.specs.Geometry.{regionOf, eraseRegion}
 use Rattle.chip.proofs.Image.{region-length}
 use Rattle.probe.specs.Probe.{probes}
-use Rattle.region.specs.declared.Record.{Record}
+use Rattle.format.specs.declared.Record.{Record}
 use Rattle.region.specs.declared.Stop.{Stop}
 use Rattle.region.specs.declared.Want.{Want}
-use Rattle.region.specs.declared.Removal.{Removal}
-use Rattle.region.specs.Layout.{recordLength, recordBytes, killPlace, killBytes}
+use Rattle.format.specs.declared.Removal.{Removal}
+use Rattle.format.specs.Layout.{recordLength, recordBytes, killPlace, killBytes}
 use Rattle.region.specs.Walk.{records, bytesIn, valueIn, recordOf, isWanted}
-use Rattle.region.proofs.Bytes.{length-record}
+use Rattle.format.proofs.Bytes.{length-record}
 use Rattle.region.proofs.Theorems.{append-writes, reads-back, records-within}
 use Rattle.region.proofs.Search.{None}
 use Rattle.lookup.specs.declared.Need.{Need}

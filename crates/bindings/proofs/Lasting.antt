@@ -9,8 +9,8 @@ use mathlib.Core.List.{List, [], _∷_}
 use lib.ListN.{length}
 use Rattle.chip.specs.Chip.{Bytes, erased}
 use Rattle.chip.specs.Geometry.{regionOf}
-use Rattle.region.specs.declared.Removal.{Removal}
-use Rattle.region.proofs.Numbers.{no-bytes}
+use Rattle.format.specs.declared.Removal.{Removal}
+use Rattle.format.proofs.Numbers.{no-bytes}
 use Rattle.lookup.specs.declared.Need.{Need}
 use Rattle.lookup.specs.declared.Seen.{Seen}
 use Rattle.lookup.specs.declared.Turn.{Turn}

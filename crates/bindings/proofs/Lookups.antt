@@ -9,12 +9,13 @@ use borrow.Author.Tests.{eq-eqb}
 use Rattle.chip.specs.Geometry.{regionOf}
 use Rattle.probe.specs.Probe.{probes}
 use Rattle.probe.proofs.Theorems.{members}
-use Rattle.region.specs.declared.Record.{Record}
+use Rattle.format.specs.declared.Record.{Record}
 use Rattle.region.specs.declared.Fault.{Fault}
 use Rattle.region.specs.declared.Stop.{Stop}
 use Rattle.region.specs.declared.Want.{Want}
 use Rattle.region.specs.declared.Event.{Event}
-use Rattle.region.specs.Walk.{live, records, isWanted, eventIn}
+use Rattle.format.specs.Layout.{live}
+use Rattle.region.specs.Walk.{records, isWanted, eventIn}
 use Rattle.region.proofs.Search.{None}
 use Rattle.region.proofs.Theorems.{live-decides, stop-decides}
 use Rattle.lookup.specs.declared.Need.{Need}

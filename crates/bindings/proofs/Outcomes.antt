@@ -9,10 +9,10 @@ use Rattle.chip.specs.Chip.{written}
 use Rattle.chip.specs.Geometry.{Fits}
 use Rattle.probe.specs.Probe.{allowedKey, probes}
 use Rattle.probe.proofs.Theorems.{members}
-use Rattle.region.specs.declared.Record.{Record}
+use Rattle.format.specs.declared.Record.{Record}
 use Rattle.region.specs.declared.Fault.{Fault}
-use Rattle.region.specs.declared.Removal.{Removal}
-use Rattle.region.specs.Layout.{recordLength, recordBytes, killPlace, killBytes}
+use Rattle.format.specs.declared.Removal.{Removal}
+use Rattle.format.specs.Layout.{recordLength, recordBytes, killPlace, killBytes}
 use Rattle.lookup.specs.declared.refusals.Refusal.{Refusal}
 use Rattle.lookup.specs.declared.refusals.Check.{Check}
 use Rattle.lookup.specs.declared.Need.{Need}

@@ -11,9 +11,9 @@ use Rattle.chip.specs.Chip.{erased}
 use Rattle.chip.specs.Geometry.{geometry, regionOf}
 use Rattle.chip.proofs.Laws.{blank-take}
 use Rattle.probe.specs.Probe.{allowedKey}
-use Rattle.region.specs.declared.Record.{Record}
-use Rattle.region.specs.declared.Removal.{Removal}
-use Rattle.region.specs.Layout.{recordLength, checkSumFits}
+use Rattle.format.specs.declared.Record.{Record}
+use Rattle.format.specs.declared.Removal.{Removal}
+use Rattle.format.specs.Layout.{recordLength, checkSumFits}
 use Rattle.region.specs.Walk.{bytesIn, valueLength}
 use Rattle.lookup.specs.declared.refusals.Refusal.{Refusal}
 use Rattle.lookup.specs.declared.refusals.Check.{Check}

@@ -11,11 +11,11 @@ use lib.Seq.{drop-drop, getD-drop}
 use Rattle.chip.specs.Chip.{Bytes, written, erased, isBlank}
 use Rattle.chip.proofs.Lists.{Every, every-join, every-split}
 use Rattle.chip.proofs.Laws.{blank-at, at-blank, blank-take, blank-erased}
-use Rattle.region.specs.declared.Record.{Record}
+use Rattle.format.specs.declared.Record.{Record}
 use Rattle.region.specs.declared.Stop.{Stop}
-use Rattle.region.specs.declared.Removal.{Removal}
-use Rattle.region.specs.Layout.{recordLength, recordBytes, killPlace, killBytes, checkSumFits}
-use Rattle.region.specs.Walk.{live, View, walkFrom, records, ending, bytesIn, recordOf, dead}
+use Rattle.format.specs.declared.Removal.{Removal}
+use Rattle.format.specs.Layout.{recordLength, recordBytes, killPlace, killBytes, checkSumFits, live}
+use Rattle.region.specs.Walk.{View, walkFrom, records, ending, bytesIn, recordOf, dead}
 use Rattle.region.proofs.Same.{Kept}
 use Rattle.region.proofs.Theorems.{stops-behind, reads-back, append-adds, append-writes, append-tail, removal-kills, removal-tail, blank-region, dead-not-live}
 

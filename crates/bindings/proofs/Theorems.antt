@@ -16,8 +16,8 @@ use Rattle.chip.proofs.Image.{region-length}
 use Rattle.probe.specs.Probe.{allowedKey, home, probes}
 use Rattle.probe.proofs.Theorems.{probes-length}
 use Rattle.region.specs.declared.Stop.{Stop}
-use Rattle.region.specs.declared.Removal.{Removal}
-use Rattle.region.specs.Layout.{recordLength}
+use Rattle.format.specs.declared.Removal.{Removal}
+use Rattle.format.specs.Layout.{recordLength}
 use Rattle.region.specs.Walk.{ending}
 use Rattle.lookup.specs.declared.refusals.Refusal.{Refusal}
 use Rattle.lookup.specs.declared.Need.{Need}

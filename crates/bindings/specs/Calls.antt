@@ -6,7 +6,7 @@ use mathlib.Core.List.{List, [], _∷_}
 use lib.Bits.{bitAnd}
 use lib.ListN.{getD}
 use Rattle.chip.specs.Chip.{Bytes}
-use Rattle.region.specs.declared.Removal.{Removal}
+use Rattle.format.specs.declared.Removal.{Removal}
 use Rattle.plans.specs.Answers.{startsAnew}
 use Rattle.store.specs.Read.{getOf}
 use Rattle.store.specs.Call.{Call, get, append, remove, collect, initialise, imageAfter}

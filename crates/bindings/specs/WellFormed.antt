@@ -8,10 +8,10 @@ use lib.ListN.{drop}
 use Rattle.chip.specs.Chip.{Bytes, isBlank}
 use Rattle.chip.specs.Geometry.{Fits, regionOf}
 use Rattle.probe.specs.Probe.{allowedKey}
-use Rattle.region.specs.declared.Record.{Record}
+use Rattle.format.specs.declared.Record.{Record}
 use Rattle.region.specs.declared.Stop.{Stop}
-use Rattle.region.specs.Layout.{largestLength, checkSumFits}
-use Rattle.region.specs.Walk.{live, records, ending, bytesIn, valueIn}
+use Rattle.format.specs.Layout.{largestLength, checkSumFits, live}
+use Rattle.region.specs.Walk.{records, ending, bytesIn, valueIn}
 
 -- x is one of the records of region r of the image
 pub record Stored (s n : ℕ) (image : List ℕ) (r : ℕ) (x : Record) : Type 0 where

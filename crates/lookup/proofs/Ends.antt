@@ -15,7 +15,7 @@ use Rattle.chip.specs.Chip.{isBlank}
 use Rattle.chip.proofs.Image.{place-small, region-inside, region-length}
 use Rattle.probe.specs.Probe.{probes}
 use Rattle.probe.proofs.Theorems.{members}
-use Rattle.region.specs.declared.Record.{Record}
+use Rattle.format.specs.declared.Record.{Record}
 use Rattle.lookup.specs.declared.refusals.Check.{Check}
 use Rattle.lookup.specs.declared.Need.{Need}
 use Rattle.lookup.specs.declared.Room.{Room}

@@ -13,7 +13,7 @@ use Rattle.chip.specs.Geometry.{Fits, geometry, regionOf}
 use Rattle.chip.proofs.Image.{geometry-fits, region-length}
 use Rattle.probe.specs.Probe.{allowedKey, probes}
 use Rattle.probe.proofs.Theorems.{members}
-use Rattle.region.specs.declared.Record.{Record}
+use Rattle.format.specs.declared.Record.{Record}
 use Rattle.region.specs.declared.Fault.{Fault}
 use Rattle.region.specs.declared.Stop.{Stop}
 use Rattle.region.specs.declared.Want.{Want}

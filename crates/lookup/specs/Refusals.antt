@@ -7,7 +7,7 @@ use Rattle.chip.specs.Geometry.{geometry}
 use Rattle.probe.specs.Probe.{allowedKey}
 use Rattle.region.specs.declared.Fault.{Fault}
 use Rattle.region.specs.declared.Fault.the-variants.{UnsupportedVersion, CorruptData}
-use Rattle.region.specs.Layout.{edition, largestValue}
+use Rattle.format.specs.Layout.{edition, largestValue}
 use Rattle.lookup.specs.declared.refusals.Refusal.{Refusal}
 use Rattle.lookup.specs.declared.refusals.Check.{Check}
 

@@ -3,7 +3,7 @@ ghost use mathlib.Core.Path.{_≡_};
 ghost use lib.ListN.{getD};
 ghost use Rattle.lookup.specs.Refusals.{number, valueOf, refusalOf, refusalUnder, firstRefusal};
 use region::Fault;
-use region::Record;
+use format::Record;
 
 // In the order of their numbers, 1 to 12.
 pub enum Refusal {

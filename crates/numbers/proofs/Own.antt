@@ -6,7 +6,7 @@ use mathlib.Core.Bool.{Bool, true, false, cond, _&&_, true≢false}
 use lib.Dec.{eqb, ltb}
 use borrow.Author.Tests.{eqb-true, ne-eqb}
 use Rattle.chip.proofs.Image.{both}
-use Rattle.region.specs.declared.Removal.{Removal}
+use Rattle.format.specs.declared.Removal.{Removal}
 use Rattle.lookup.specs.declared.Room.{Room}
 use Rattle.lookup.specs.Gather.{unseen, withRoom}
 use Rattle.plans.specs.declared.Answer.the-variants.{Complete, Written, Freed}

@@ -2,8 +2,8 @@
 use Prim.Native.Nat.{ℕ}
 use mathlib.Core.Bool.{Bool, true, false, cond, _&&_}
 use lib.Dec.{eqb, ltb}
-use Rattle.region.specs.declared.Record.{Record}
-use Rattle.region.specs.declared.Removal.{Removal}
+use Rattle.format.specs.declared.Record.{Record}
+use Rattle.format.specs.declared.Removal.{Removal}
 use Rattle.lookup.specs.declared.Room.{Room}
 use Rattle.lookup.specs.Gather.{unseen, withRoom}
 use Rattle.plans.specs.declared.Answer.the-variants.{Complete, Written, Freed}

@@ -12,7 +12,7 @@ use plans::Edits;
 use plans::Lent;
 use plans::Plan;
 use plans::Then;
-use region::Removal;
+use format::Removal;
 use running::Op;
 use running::Start;
 

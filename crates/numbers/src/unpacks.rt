@@ -11,8 +11,8 @@ use plans::Edits;
 use plans::Lent;
 use plans::Plan;
 use plans::Then;
-use region::Record;
-use region::Removal;
+use format::Record;
+use format::Removal;
 use running::Op;
 use running::Reply;
 

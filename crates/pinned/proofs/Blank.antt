@@ -16,7 +16,7 @@ use Rattle.probe.specs.Probe.{home, outward, probe, probes}
 use Rattle.probe.proofs.Theorems.{members, home-lt}
 use Rattle.region.specs.declared.Want.{Want}
 use Rattle.region.specs.declared.Event.{Event}
-use Rattle.region.specs.Layout.{recordBytes}
+use Rattle.format.specs.Layout.{recordBytes}
 use Rattle.region.specs.Walk.{View, ending, isWanted, firstOf, eventIn}
 use Rattle.region.proofs.Theorems.{blank-region}
 use Rattle.lookup.specs.declared.Need.{Need}

@@ -8,7 +8,7 @@ use mathlib.Core.List.{List}
 use lib.Dec.{ltb}
 use lib.ListN.{length}
 use Rattle.chip.specs.Geometry.{regionOf}
-use Rattle.region.specs.Layout.{checkSumFits}
+use Rattle.format.specs.Layout.{checkSumFits}
 use Rattle.region.specs.Walk.{bytesIn, valueLength}
 use Rattle.lookup.specs.declared.refusals.Refusal.{Refusal}
 use Rattle.lookup.specs.declared.Hit.{Hit}

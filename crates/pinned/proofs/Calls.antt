@@ -12,10 +12,10 @@ use Rattle.chip.specs.Chip.{erased, written}
 use Rattle.chip.specs.Geometry.{Fits, regionOf, numbers}
 use Rattle.chip.proofs.Image.{fits-geometry}
 use Rattle.probe.specs.Probe.{home, probes}
-use Rattle.region.specs.declared.Record.{Record}
-use Rattle.region.specs.declared.Removal.{Removal}
+use Rattle.format.specs.declared.Record.{Record}
+use Rattle.format.specs.declared.Removal.{Removal}
 use Rattle.region.specs.declared.Fault.the-variants.{UnsupportedVersion, CorruptData}
-use Rattle.region.specs.Layout.{recordLength, recordBytes, killPlace, killBytes, checkSumFits}
+use Rattle.format.specs.Layout.{recordLength, recordBytes, killPlace, killBytes, checkSumFits}
 use Rattle.region.specs.Walk.{bytesIn, valueLength}
 use Rattle.lookup.specs.declared.refusals.Refusal.{Refusal}
 use Rattle.lookup.specs.declared.Need.{Need}

@@ -13,7 +13,7 @@ use borrow.Author.Tests.{ltb-true, ltb-false, eqb-true, eqb-false}
 use Rattle.chip.specs.Geometry.{Fits, geometry, numbers}
 use Rattle.chip.proofs.Image.{geometry-fits, fits-geometry}
 use Rattle.probe.specs.Probe.{allowedKey}
-use Rattle.region.specs.Layout.{edition, largestValue}
+use Rattle.format.specs.Layout.{edition, largestValue}
 use Rattle.lookup.specs.declared.refusals.Refusal.{Refusal}
 use Rattle.lookup.specs.declared.refusals.Check.{Check}
 use Rattle.lookup.specs.Refusals.{firstRefusal}

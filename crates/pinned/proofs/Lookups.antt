@@ -12,7 +12,7 @@ use lib.ListN.{length, take, drop}
 use borrow.Author.Tests.{le-leb, leb-true, leb-false}
 use Rattle.chip.specs.Chip.{isBlank}
 use Rattle.chip.specs.Geometry.{regionOf}
-use Rattle.region.specs.declared.Record.{Record}
+use Rattle.format.specs.declared.Record.{Record}
 use Rattle.region.specs.declared.Fault.{Fault}
 use Rattle.region.specs.declared.Stop.{Stop}
 use Rattle.region.specs.declared.Want.{Want}

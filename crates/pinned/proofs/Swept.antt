@@ -16,7 +16,7 @@ use Rattle.chip.specs.Chip.{erased}
 use Rattle.chip.specs.Geometry.{Fits, regionOf, eraseRegion, numbers}
 use Rattle.chip.proofs.Lists.{Every}
 use Rattle.chip.proofs.Image.{region-erased-other, region-erased-same, fits-erased}
-use Rattle.region.specs.declared.Record.{Record}
+use Rattle.format.specs.declared.Record.{Record}
 use Rattle.region.specs.declared.Fault.{Fault}
 use Rattle.region.specs.declared.Stop.{Stop}
 use Rattle.region.specs.declared.Want.{Want}

@@ -13,12 +13,12 @@ use Rattle.chip.specs.Geometry.{Fits, regionOf}
 use Rattle.chip.proofs.Image.{region-length}
 use Rattle.probe.specs.Probe.{home, probes}
 use Rattle.probe.proofs.Theorems.{members, Distinct}
-use Rattle.region.specs.declared.Record.{Record}
+use Rattle.format.specs.declared.Record.{Record}
 use Rattle.region.specs.declared.Fault.{Fault}
-use Rattle.region.specs.declared.Removal.{Removal}
+use Rattle.format.specs.declared.Removal.{Removal}
 use Rattle.region.specs.declared.Event.{Event}
 use Rattle.region.specs.declared.Want.{Want}
-use Rattle.region.specs.Layout.{recordBytes, checkSumFits}
+use Rattle.format.specs.Layout.{recordBytes, checkSumFits}
 use Rattle.region.specs.Walk.{eventIn, bytesIn, valueLength, valueIn}
 use Rattle.lookup.specs.declared.refusals.Refusal.{Refusal}
 use Rattle.lookup.specs.declared.Need.{Need}

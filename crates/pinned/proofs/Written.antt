@@ -15,14 +15,15 @@ use Rattle.chip.proofs.Laws.{bytes-cons, blank-at}
 use Rattle.chip.proofs.Image.{region-length, region-written-same, region-written-other}
 use Rattle.probe.specs.Probe.{probes}
 use Rattle.probe.proofs.Theorems.{members}
-use Rattle.region.specs.declared.Record.{Record}
+use Rattle.format.specs.declared.Record.{Record}
 use Rattle.region.specs.declared.Want.{Want}
-use Rattle.region.specs.declared.Removal.{Removal}
-use Rattle.region.specs.Layout.{recordLength, recordBytes, killPlace, killBytes}
-use Rattle.region.specs.Walk.{live, View, walkFrom, records, ending, dead, isWanted}
-use Rattle.region.proofs.Numbers.{no-bytes}
-use Rattle.region.proofs.Bytes.{length-record}
-use Rattle.region.proofs.Theorems.{live-decides, append-writes, kill-length, removal-kills, dead-not-live}
+use Rattle.format.specs.declared.Removal.{Removal}
+use Rattle.format.specs.Layout.{recordLength, recordBytes, killPlace, killBytes, live}
+use Rattle.region.specs.Walk.{View, walkFrom, records, ending, dead, isWanted}
+use Rattle.format.proofs.Numbers.{no-bytes}
+use Rattle.format.proofs.Bytes.{length-record}
+use Rattle.format.proofs.Killed.{kill-length}
+use Rattle.region.proofs.Theorems.{live-decides, append-writes, removal-kills, dead-not-live}
 use Rattle.lookup.specs.declared.Need.{Need}
 use Rattle.lookup.specs.declared.Room.{Room}
 use Rattle.lookup.specs.declared.Seen.{Seen}

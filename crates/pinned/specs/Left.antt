@@ -7,11 +7,11 @@ use lib.ListN.{length, take, drop}
 use Rattle.chip.specs.Chip.{written, erased, isBlank}
 use Rattle.chip.specs.Geometry.{geometry, regionOf, eraseRegion, numbers}
 use Rattle.probe.specs.Probe.{probes}
-use Rattle.region.specs.declared.Record.{Record}
+use Rattle.format.specs.declared.Record.{Record}
 use Rattle.region.specs.declared.Stop.{Stop}
-use Rattle.region.specs.declared.Removal.{Removal}
-use Rattle.region.specs.Layout.{recordLength, recordBytes, killPlace, killBytes}
-use Rattle.region.specs.Walk.{live, walkFrom, records, ending, dead}
+use Rattle.format.specs.declared.Removal.{Removal}
+use Rattle.format.specs.Layout.{recordLength, recordBytes, killPlace, killBytes, live}
+use Rattle.region.specs.Walk.{walkFrom, records, ending, dead}
 use Rattle.lookup.specs.declared.Need.{Need}
 use Rattle.lookup.specs.declared.Room.{Room}
 use Rattle.lookup.specs.declared.Looked.{Looked}

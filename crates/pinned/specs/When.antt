@@ -9,13 +9,13 @@ use lib.ListN.{length, take, drop}
 use Rattle.chip.specs.Chip.{isBlank}
 use Rattle.chip.specs.Geometry.{Fits, regionOf}
 use Rattle.probe.specs.Probe.{probes}
-use Rattle.region.specs.declared.Record.{Record}
+use Rattle.format.specs.declared.Record.{Record}
 use Rattle.region.specs.declared.Fault.{Fault}
 use Rattle.region.specs.declared.Fault.the-variants.{UnsupportedVersion, CorruptData}
 use Rattle.region.specs.declared.Want.{Want}
 use Rattle.region.specs.declared.Event.{Event}
-use Rattle.region.specs.declared.Removal.{Removal}
-use Rattle.region.specs.Layout.{edition, largestValue, recordLength, checkSumFits}
+use Rattle.format.specs.declared.Removal.{Removal}
+use Rattle.format.specs.Layout.{edition, largestValue, recordLength, checkSumFits}
 use Rattle.region.specs.Walk.{bytesIn, valueLength, eventIn}
 use Rattle.lookup.specs.declared.Need.{Need}
 use Rattle.lookup.specs.declared.Room.{Room}

@@ -10,9 +10,9 @@ use lib.ListN.{length, take, drop}
 use borrow.Author.Tests.{ltb-true, leb-true, lt-ltb, le-leb}
 use Rattle.chip.specs.Chip.{isBlank}
 use Rattle.chip.proofs.Image.{both}
-use Rattle.region.specs.declared.Record.{Record}
-use Rattle.region.specs.declared.Removal.{Removal}
-use Rattle.region.specs.Layout.{recordLength}
+use Rattle.format.specs.declared.Record.{Record}
+use Rattle.format.specs.declared.Removal.{Removal}
+use Rattle.format.specs.Layout.{recordLength}
 use Rattle.lookup.specs.declared.Need.{Need}
 use Rattle.lookup.specs.declared.Room.{Room}
 use Rattle.lookup.specs.declared.Seen.{Seen}

@@ -9,10 +9,10 @@ use mathlib.Core.List.{List}
 use lib.ListN.{length, take, drop, replicate, length-append, length-replicate}
 use lib.Seq.{length-sets, take-all}
 use Rattle.chip.proofs.Lists.{sets-part}
-use Rattle.region.specs.declared.Record.{Record}
-use Rattle.region.specs.declared.Removal.{Removal}
-use Rattle.region.specs.Layout.{deadHeader, killLength, killBytes}
-use Rattle.region.proofs.Bytes.{length-header, length-record}
+use Rattle.format.specs.declared.Record.{Record}
+use Rattle.format.specs.declared.Removal.{Removal}
+use Rattle.format.specs.Layout.{deadHeader, killLength, killBytes}
+use Rattle.format.proofs.Bytes.{length-header, length-record}
 use Rattle.plans.specs.declared.Edit.{Edit}
 use Rattle.plans.specs.Writes.{startOf, bytesOf, sizeOf, laidIn}
 use Rattle.plans.specs.Fits.{editFits}

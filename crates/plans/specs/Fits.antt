@@ -2,8 +2,8 @@
 use Prim.Native.Nat.{ℕ, _-_}
 use mathlib.Core.Bool.{Bool, true, false, _&&_}
 use lib.Dec.{ltb, leb, eqb}
-use Rattle.region.specs.declared.Record.{Record}
-use Rattle.region.specs.Layout.{edition, leastLength, mostLength, largestValue, recordLength}
+use Rattle.format.specs.declared.Record.{Record}
+use Rattle.format.specs.Layout.{edition, leastLength, mostLength, largestValue, recordLength}
 use Rattle.lookup.specs.declared.Room.{Room}
 use Rattle.lookup.specs.declared.Seen.{Seen}
 use Rattle.plans.specs.declared.Answer.{Answer}

@@ -4,7 +4,7 @@ use mathlib.Core.Bool.{Bool, true, false, cond}
 use mathlib.Core.List.{List, [], _∷_}
 use lib.Dec.{ltb}
 use lib.ListN.{length}
-use Rattle.region.specs.declared.Record.{Record}
+use Rattle.format.specs.declared.Record.{Record}
 use Rattle.region.specs.declared.Want.{Want}
 use Rattle.region.specs.declared.Event.{Event}
 use Rattle.region.specs.Walk.{records, eventIn}

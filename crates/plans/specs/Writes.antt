@@ -7,9 +7,9 @@ use lib.ListN.{length}
 use lib.Seq.{sets}
 use Rattle.chip.specs.Chip.{written}
 use Rattle.chip.specs.Geometry.{eraseRegion, numbers}
-use Rattle.region.specs.declared.Record.{Record}
-use Rattle.region.specs.declared.Removal.{Removal}
-use Rattle.region.specs.Layout.{recordLength, recordBytes, killPlace, killLength, killBytes}
+use Rattle.format.specs.declared.Record.{Record}
+use Rattle.format.specs.declared.Removal.{Removal}
+use Rattle.format.specs.Layout.{recordLength, recordBytes, killPlace, killLength, killBytes}
 use Rattle.plans.specs.declared.Lent.{Lent}
 use Rattle.plans.specs.declared.Edit.{Edit}
 use Rattle.plans.specs.declared.Edits.{Edits}

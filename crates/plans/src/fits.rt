@@ -15,7 +15,7 @@ use crate::Plan;
 use crate::Then;
 use lookup::Room;
 use lookup::Seen;
-use region::Record;
+use format::Record;
 
 fn lies_in(o: usize, len: usize, s: usize) -> bool
     ensures { λ r. ⌜ r ≡ lies o len s ⌝ }

@@ -23,8 +23,8 @@ ghost use Rattle.plans.specs.Writes.{valueLent, bufferLent};
 use lookup::Refusal;
 use lookup::Seen;
 use region::Fault;
-use region::Record;
-use region::Removal;
+use format::Record;
+use format::Removal;
 
 // What a call answers.
 pub enum Answer {

@@ -15,8 +15,8 @@ use lookup::Need;
 use lookup::Refusal;
 use lookup::Room;
 use lookup::Seen;
-use region::Record;
-use region::Removal;
+use format::Record;
+use format::Removal;
 
 // What an aim's lookup is for, where a value of so many bytes is lent.
 pub fn need_of(aim: Aim, len: usize) -> Need

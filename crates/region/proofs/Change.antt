@@ -1,25 +1,25 @@
 -- What laying a record down at the end, and making one dead, do to the parsed view.
 -- Assumes nothing.
-use Prim.Native.Nat.{ℕ, zero, suc, _+_, _-_, _*_, _/_, _%_, _^_, _≤_, _<_}
+use Prim.Native.Nat.{ℕ, _+_, _-_, _*_, _/_, _%_, _≤_, _<_}
 use native.Mathlib.Nat.{zero-add, add-zero, add-assoc}
 use native.Mathlib.Omega.{arith}
 use mathlib.Core.Path.{_≡_, refl, sym, _∙_, ap, subst}
 use mathlib.Core.Bool.{Bool, true, false}
 use mathlib.Core.List.{List, [], _∷_, _++_, append-nil}
-use lib.ListN.{length, getD, take, drop, set, replicate, length-drop}
+use lib.ListN.{length, getD, take, drop, length-drop}
 use lib.Dec.{ltb}
 use lib.Seq.{sets, length-sets, getD-drop}
 use borrow.Author.Tests.{ltb-true, ltb-false}
 use Rattle.chip.specs.Chip.{isBlank}
-use Rattle.chip.proofs.Lists.{Every, every-join, byte-after, sets-before, sets-after, sets-at}
+use Rattle.chip.proofs.Lists.{every-join, byte-after, sets-before, sets-after, sets-at}
 use Rattle.chip.proofs.Laws.{blank-at, at-blank}
-use Rattle.region.specs.declared.Record.{Record}
-use Rattle.region.specs.declared.Stop.the-variants.{End, Bad}
+use Rattle.format.specs.declared.Record.{Record}
+use Rattle.region.specs.declared.Stop.the-variants.{End}
 use Rattle.region.specs.declared.Met.{Met}
-use Rattle.region.specs.Walk.{lengthAt, flagsAt, keyAt, recordAt, metOf, metAt, View, stopped, walkFrom, records, ending, dead}
-use Rattle.region.proofs.Numbers.{big-same}
-use Rattle.region.proofs.Steps.{Stands, stands-is, found, is-found, found-fits, found-at, walk-stop, placeOf}
-use Rattle.region.proofs.Reach.{Reach, reach-le, reach-join, reach-walk, reach-stop, stands-stop, is-walk, Split, split-records}
+use Rattle.region.specs.Walk.{lengthAt, flagsAt, keyAt, recordAt, metAt, stopped, walkFrom, records, ending, dead}
+use Rattle.format.proofs.Numbers.{big-same}
+use Rattle.region.proofs.Steps.{Stands, stands-is, found, is-found, found-fits, walk-stop, placeOf}
+use Rattle.region.proofs.Reach.{Reach, reach-le, reach-join, reach-walk, reach-stop, stands-stop, is-walk, split-records}
 use Rattle.region.proofs.Same.{moved, record-same, met-after, reach-before, reach-after, Kept, kept-before, kept-after}
 
 -- A tail that is all 255 has no record.

@@ -1,6 +1,6 @@
 -- What makes a record dead, of the record alone, is what the region's own bytes say; a write of it makes that record dead and leaves the rest.
 -- Assumes nothing.
-use Prim.Native.Nat.{ℕ, zero, suc, _+_, _-_, _*_, _/_, _%_, _≤_, _<_}
+use Prim.Native.Nat.{ℕ, suc, _+_, _-_, _*_, _/_, _%_, _≤_, _<_}
 use native.Mathlib.Nat.{add-zero}
 use native.Mathlib.Omega.{arith}
 use mathlib.Core.Path.{_≡_, refl, sym, _∙_, ap, subst}
@@ -13,26 +13,16 @@ use lib.Seq.{sets, length-sets, drop-cons, getD-take, getD-drop, getD-set-same, 
 use borrow.Author.Tests.{ltb-true, ltb-false, eqb-true, eqb-false}
 use Rattle.chip.specs.Chip.{Bytes, written}
 use Rattle.chip.proofs.Lists.{sets-before, sets-after, sets-at}
-use Rattle.chip.proofs.Laws.{bytes-cons, written-stores, and-clear}
+use Rattle.chip.proofs.Laws.{written-stores, and-clear}
 use Rattle.chip.proofs.Theorems.{clears-flag}
-use Rattle.region.specs.declared.Record.{Record}
-use Rattle.region.specs.declared.Removal.{Removal}
+use Rattle.format.specs.declared.Record.{Record}
+use Rattle.format.specs.declared.Removal.{Removal}
 use Rattle.region.specs.declared.Met.{Met}
-use Rattle.region.specs.Layout.{deadHeader, killBytes, killPlace}
+use Rattle.format.specs.Layout.{deadHeader, killBytes, killPlace}
 use Rattle.region.specs.Walk.{recordAt, metAt}
-use Rattle.region.proofs.Numbers.{big-back, no-bytes}
+use Rattle.format.proofs.Numbers.{big-back}
 use Rattle.region.proofs.Steps.{found, found-fits}
-use Rattle.region.proofs.Bytes.{header-bytes}
 use Rattle.region.proofs.Change.{Buried, flag-gone}
-
--- The header and the zeros are bytes.
-
-pub zero-bytes : (n : ℕ) → Bytes (replicate n 0)
-zero-bytes zero = no-bytes
-zero-bytes (suc n) = bytes-cons 0 (replicate n 0) (omega arith) (zero-bytes n)
-
-pub dead-bytes : (x : Record) → x .version < 256 → x .len ≤ 4095 → Bytes (deadHeader x)
-dead-bytes x v h = header-bytes (x .version) (x .flags % 8) (x .len) (x .key) v (omega arith) h
 
 -- The same bytes, read off the region where the record stands.
 

@@ -1,10 +1,8 @@
-pub mod Numbers
 pub mod Steps
 pub mod Reach
 pub mod Search
 pub mod Same
 pub mod Bytes
-pub mod Laid
 pub mod Change
 pub mod Kill
 pub mod Theorems

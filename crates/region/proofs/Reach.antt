@@ -1,15 +1,15 @@
 -- From one place of a walk to another: the records that it passes on the way.
 -- Assumes nothing.
-use Prim.Native.Nat.{ℕ, zero, suc, _+_, _-_, _≤_, _<_}
+use Prim.Native.Nat.{ℕ, zero, suc, _+_, _-_, _≤_}
 use native.Mathlib.Omega.{arith}
-use mathlib.Core.Path.{_≡_, refl, sym, _∙_, ap, subst}
+use mathlib.Core.Path.{_≡_, refl, _∙_, ap, subst}
 use mathlib.Core.List.{List, [], _∷_, _++_, append-nil}
 use lib.ListN.{length}
-use Rattle.region.specs.declared.Record.{Record}
+use Rattle.format.specs.declared.Record.{Record}
 use Rattle.region.specs.declared.Stop.{Stop}
-use Rattle.region.specs.declared.Stop.the-variants.{End, Bad}
+use Rattle.region.specs.declared.Stop.the-variants.{End}
 use Rattle.region.specs.declared.Met.{Met}
-use Rattle.region.specs.Walk.{recordAt, metAt, View, stopped, passed, walkFrom, records, ending}
+use Rattle.region.specs.Walk.{metAt, View, passed, walkFrom, records, ending}
 use Rattle.region.proofs.Steps.{found-fits, found-at, end-short, walk-stop, walk-found, placeOf, stop-place}
 
 -- The walk of r comes from o to p over these records.

@@ -4,14 +4,13 @@ use Prim.Native.Nat.{ℕ, _+_, _-_, _*_, _/_, _%_, _≤_, _<_}
 use native.Mathlib.Nat.{add-assoc, add-zero}
 use native.Mathlib.Omega.{arith}
 use mathlib.Core.Path.{_≡_, _∙_}
-use mathlib.Core.List.{List, [], _∷_}
+use mathlib.Core.List.{List}
 use lib.ListN.{length, getD, take, drop}
 use Rattle.chip.proofs.Lists.{Every, byte-before, byte-after, part-before, part-after}
-use Rattle.region.specs.declared.Record.{Record}
-use Rattle.region.specs.declared.Met.{Met}
-use Rattle.region.specs.Walk.{recordAt, metOf, metAt, bytesIn}
+use Rattle.format.specs.declared.Record.{Record}
+use Rattle.region.specs.Walk.{recordAt, metOf, metAt}
 pub use Rattle.region.specs.Words.{Kept}
-use Rattle.region.proofs.Numbers.{big-same}
+use Rattle.format.proofs.Numbers.{big-same}
 use Rattle.region.proofs.Steps.{found-fits, found-at}
 use Rattle.region.proofs.Reach.{Reach, reach-le}
 

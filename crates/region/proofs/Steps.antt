@@ -4,17 +4,16 @@ use Prim.Native.Nat.{ℕ, zero, suc, _+_, _-_, _≤_, _<_}
 use native.Mathlib.Omega.{arith}
 use mathlib.Core.Path.{_≡_, refl, sym, _∙_, ap}
 use mathlib.Core.Bool.{Bool, true, false, not, _||_, cond}
-use mathlib.Core.List.{List, []}
+use mathlib.Core.List.{List}
 use lib.Dec.{ltb, eqb}
 use lib.ListN.{length}
-use borrow.Author.Tests.{ltb-true, ltb-false, eqb-true, eqb-false, le-ltb, lt-ltb, eq-eqb, ne-eqb}
-use Rattle.region.specs.declared.Record.{Record}
-use Rattle.region.specs.declared.Fault.{Fault}
+use borrow.Author.Tests.{ltb-true, ltb-false, eqb-true, eqb-false, le-ltb, lt-ltb, ne-eqb}
+use Rattle.format.specs.declared.Record.{Record}
 use Rattle.region.specs.declared.Fault.the-variants.{UnsupportedVersion, CorruptData}
 use Rattle.region.specs.declared.Stop.{Stop}
 use Rattle.region.specs.declared.Stop.the-variants.{End, Bad}
 use Rattle.region.specs.declared.Met.{Met}
-use Rattle.region.specs.Walk.{lengthAt, recordAt, metOf, metAt, View, stopped, passed, walkIn, walkFrom}
+use Rattle.region.specs.Walk.{lengthAt, recordAt, metOf, metAt, stopped, passed, walkIn, walkFrom}
 pub use Rattle.region.specs.Words.{placeOf}
 
 -- The cases of a step, each with what its tests say.

@@ -6,35 +6,36 @@ use Prim.Native.Nat.{ℕ, _+_, _-_, _%_, _^_, _≤_, _<_}
 use native.Mathlib.Nat.{add-zero}
 use native.Mathlib.Omega.{arith}
 use mathlib.Core.Path.{_≡_, refl, sym, _∙_, ap, subst}
-use mathlib.Core.Bool.{Bool, true, false}
+use mathlib.Core.Bool.{true, false}
 use mathlib.Core.List.{List, [], _∷_, _++_}
-use lib.ListN.{length, getD, take, drop, set, replicate, length-append, length-replicate}
+use lib.ListN.{length, getD, take, drop, set, replicate}
 use lib.Seq.{sets, take-all}
 use borrow.Author.Tests.{lt-leb}
 use Rattle.crc32.proofs.Theorems.{checksum-fits}
 use Rattle.chip.specs.Chip.{Bytes, written, erased, isBlank}
 use Rattle.chip.proofs.Lists.{sets-after, sets-part}
-use Rattle.chip.proofs.Runs.{Within, written-run, run-within}
-use Rattle.chip.proofs.Laws.{bytes-cons, bytes-append, blank-take, blank-erased}
+use Rattle.chip.proofs.Runs.{written-run, run-within}
+use Rattle.chip.proofs.Laws.{blank-take, blank-erased}
 use Rattle.chip.proofs.Theorems.{over-blank}
-use Rattle.region.specs.declared.Record.{Record}
+use Rattle.format.specs.declared.Record.{Record}
 use Rattle.region.specs.declared.Stop.{Stop}
-use Rattle.region.specs.declared.Stop.the-variants.{End, Bad}
+use Rattle.region.specs.declared.Stop.the-variants.{End}
 use Rattle.region.specs.declared.Met.{Met}
 use Rattle.region.specs.declared.Want.{Want}
 use Rattle.region.specs.declared.Event.{Event}
-use Rattle.region.specs.declared.Removal.{Removal}
-use Rattle.region.specs.Layout.{edition, mostLength, recordLength, headerAndValue, recordBytes, deadHeader, killBytes, killLength, killPlace, checkSumFits}
-use Rattle.region.specs.Walk.{lengthAt, flagsAt, recordAt, metAt, live, walkFrom, records, ending, valueIn, bytesIn, recordOf, dead, isWanted, eventOf, eventIn}
-use Rattle.region.proofs.Numbers.{no-bytes}
-use Rattle.region.proofs.Bytes.{length-header, length-record, record-bytes, record-says, value-says, sum-says}
+use Rattle.format.specs.declared.Removal.{Removal}
+use Rattle.format.specs.Layout.{edition, mostLength, recordLength, headerAndValue, recordBytes, killBytes, killPlace, checkSumFits, live}
+use Rattle.region.specs.Walk.{lengthAt, flagsAt, recordAt, metAt, walkFrom, records, ending, valueIn, bytesIn, recordOf, dead, isWanted, eventOf, eventIn}
+use Rattle.format.proofs.Bytes.{length-record, record-bytes, sum-says}
+use Rattle.region.proofs.Bytes.{record-says, value-says}
 use Rattle.region.proofs.Steps.{Found, found, found-fits, placeOf}
-use Rattle.region.proofs.Reach.{reach-le, reach-stop, reach-within, Split, split, split-records}
+use Rattle.region.proofs.Reach.{reach-le, reach-stop, reach-within, split, split-records}
 use Rattle.region.proofs.Same.{Kept}
 use Rattle.region.proofs.Search as Search
 use Rattle.region.proofs.Search.{First, None, first-live, is-first, none-passes}
 use Rattle.region.proofs.Change.{walk-blank, walk-laid, kept-laid, walk-buried, kept-buried}
-use Rattle.region.proofs.Kill.{zero-bytes, dead-bytes, bytes-are, kill-stores, kill-buries}
+use Rattle.format.proofs.Killed.{kill-length}
+use Rattle.region.proofs.Kill.{bytes-are, kill-stores, kill-buries}
 
 -- A live record decides a search where it is the first that is wanted, and only there.
 pub live-decides : (r : List ℕ) (want : Want) (x : Record) → eventIn r want ≡ Event.Live x → First (isWanted want) (records r) x
@@ -134,17 +135,6 @@ pub removal-bytes : (r : List ℕ) (a : List Record) (x : Record) (b : List Reco
 removal-bytes r a x b v e =
     let are = bytes-are r x v (split-records r a x b e .stands) in
     (are Removal.Invalidate, are Removal.Zeroise)
-
--- They are as many as said, and each is a byte.
-pub kill-length : (how : Removal) (x : Record) → 15 ≤ x .len → length (killBytes how x) ≡ killLength how x
-kill-length Removal.Invalidate x h = refl
-kill-length Removal.Zeroise x h =
-    length-append (deadHeader x) (replicate (x .len - 11) 0)
-    ∙ omega (arith, length-header (x .version) (x .flags % 8) (x .len) (x .key), length-replicate {A = ℕ} (x .len - 11) 0)
-
-pub kill-bytes : (how : Removal) (x : Record) → x .version < 256 → x .len ≤ 4095 → Bytes (killBytes how x)
-kill-bytes Removal.Invalidate x v h = bytes-cons (getD (deadHeader x) 1 0) [] (dead-bytes x v h 1) no-bytes
-kill-bytes Removal.Zeroise x v h = bytes-append (deadHeader x) (replicate (x .len - 11) 0) (dead-bytes x v h) (zero-bytes (x .len - 11))
 
 -- Over the record the chip's write is the same as a store.
 pub removal-stores : (how : Removal) (r : List ℕ) (a : List Record) (x : Record) (b : List Record) → Bytes r → records r ≡ a ++ x ∷ b

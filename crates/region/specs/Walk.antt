@@ -1,22 +1,17 @@
 -- A walk of one region, for any list of bytes: what stands at a place, the records in order and how and where they stop, and what decides a search.
 use Prim.Native.Nat.{ℕ, zero, suc, _+_, _-_, _*_, _/_, _%_}
-use mathlib.Core.Bool.{Bool, true, false, not, _&&_, _||_, cond}
+use mathlib.Core.Bool.{Bool, not, _&&_, _||_, cond}
 use mathlib.Core.List.{List, [], _∷_}
-use lib.Dec.{ltb, leb, eqb}
+use lib.Dec.{ltb, eqb}
 use lib.ListN.{length, getD, take, drop}
-use Rattle.region.specs.Layout.{edition, headerLength, leastLength, recordLength}
-use Rattle.region.specs.declared.Record.{Record}
+use Rattle.format.specs.Layout.{edition, headerLength, leastLength, recordLength, bigEndianAt, live}
+use Rattle.format.specs.declared.Record.{Record}
 use Rattle.region.specs.declared.Fault.the-variants.{UnsupportedVersion, CorruptData}
 use Rattle.region.specs.declared.Stop.{Stop}
 use Rattle.region.specs.declared.Stop.the-variants.{End, Bad}
 use Rattle.region.specs.declared.Met.{Met}
 use Rattle.region.specs.declared.Want.{Want}
 use Rattle.region.specs.declared.Event.{Event}
-
--- the number that k bytes from o on are, the highest first
-unfoldable pub bigEndianAt : ℕ → List ℕ → ℕ → ℕ
-bigEndianAt zero region o = 0
-bigEndianAt (suc k) region o = bigEndianAt k region o * 256 + getD region (o + k) 0
 
 -- byte 1: low four the high bits of the length; byte 2: low eight bits of the length
 abbrev pub lengthAt : List ℕ → ℕ → ℕ
@@ -51,10 +46,6 @@ metOf left x =
 -- "At place o".
 abbrev pub metAt : List ℕ → ℕ → Met
 metAt region o = metOf (length region - o) (recordAt region o)
-
--- "It is live if the top bit of byte 1 is set." "The other three flag bits are not looked at".
-abbrev pub live : Record → Bool
-live x = leb 8 (x .flags)
 
 -- The parsed view of a region: its records in order, and how and where the walk stops.
 pub record View : Type 0 where

@@ -6,7 +6,7 @@ ghost use Rattle.region.specs.Walk.{lengthAt, keyAt, metAt, eventIn};
 use crate::Event;
 use crate::Fault;
 use crate::Met;
-use crate::Record;
+use format::Record;
 use crate::Stop;
 use crate::Want;
 

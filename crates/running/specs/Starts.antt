@@ -2,7 +2,7 @@
 use Prim.Native.Nat.{ℕ}
 use mathlib.Core.Bool.{true}
 use Rattle.chip.specs.Geometry.{sized}
-use Rattle.region.specs.declared.Removal.{Removal}
+use Rattle.format.specs.declared.Removal.{Removal}
 use Rattle.lookup.specs.declared.refusals.Check.{Check}
 use Rattle.lookup.specs.Refusals.{refusalUnder}
 use Rattle.plans.specs.declared.Aim.{Aim}

@@ -1,6 +1,6 @@
 // How an operation is started.
 ghost use mathlib.Core.Path.{_≡_};
-ghost use Rattle.region.specs.declared.Removal.{Removal};
+ghost use Rattle.format.specs.declared.Removal.{Removal};
 ghost use Rattle.running.specs.Starts.{startRefusal, startedOr, lookStarted, getStarted, appendStarted, removeStarted, collectStarted, initialiseStarted};
 use crate::Op;
 use crate::Start;
@@ -11,7 +11,7 @@ use plans::Edits;
 use plans::Lent;
 use plans::Plan;
 use plans::Then;
-use region::Removal;
+use format::Removal;
 
 // What a start refuses.
 fn start_refusal(s: usize, n: usize, key: u64, len: usize) -> Check

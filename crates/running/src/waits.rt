@@ -3,7 +3,7 @@ ghost use mathlib.Core.Path.{_≡_};
 ghost use mathlib.Core.Bool.{true};
 ghost use Prim.Native.Nat.{_≤_};
 ghost use Rattle.chip.specs.Geometry.{Shape};
-ghost use Rattle.region.specs.Layout.{killOffset, killLength};
+ghost use Rattle.format.specs.Layout.{killOffset, killLength};
 ghost use Rattle.plans.specs.declared.Edit.the-variants.{Kill};
 ghost use Rattle.plans.specs.Fits.{editFits};
 ghost use Rattle.running.specs.Waits.{waitOf, requestEdit, requestOf};
@@ -16,8 +16,8 @@ use plans::Answer;
 use plans::Edit;
 use plans::First;
 use plans::Then;
-use region::Record;
-use region::Removal;
+use format::Record;
+use format::Removal;
 
 pub fn wait_of(op: Op) -> Wait
     requires { ⌜ Ruled op ⌝ }

@@ -12,8 +12,8 @@ use Rattle.chip.specs.Geometry.{geometry, Fits, regionOf, eraseRegion, numbers}
 use Rattle.chip.proofs.Image.{geometry-fits}
 use Rattle.probe.specs.Probe.{probes}
 use Rattle.probe.proofs.Theorems.{probes-length}
-use Rattle.region.specs.declared.Removal.{Removal}
-use Rattle.region.specs.Layout.{recordLength}
+use Rattle.format.specs.declared.Removal.{Removal}
+use Rattle.format.specs.Layout.{recordLength}
 use Rattle.lookup.specs.declared.refusals.Check.{Check}
 use Rattle.lookup.specs.declared.Need.{Need}
 use Rattle.lookup.specs.declared.Room.{Room}

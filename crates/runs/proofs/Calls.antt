@@ -13,7 +13,7 @@ use Rattle.chip.specs.Chip.{erased}
 use Rattle.chip.specs.Geometry.{sized, geometry, Fits, regionOf, eraseRegion, numbers}
 use Rattle.chip.proofs.Image.{fits-geometry, fits-erased, fits-blank, erase-start, erase-next, erase-end}
 use Rattle.probe.specs.Probe.{probes}
-use Rattle.region.specs.declared.Removal.{Removal}
+use Rattle.format.specs.declared.Removal.{Removal}
 use Rattle.region.specs.declared.Fault.{Fault}
 use Rattle.lookup.specs.declared.refusals.Refusal.{Refusal}
 use Rattle.lookup.specs.declared.refusals.Check.{Check}

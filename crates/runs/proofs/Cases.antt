@@ -6,7 +6,7 @@ use mathlib.Core.Bool.{Bool, true, false}
 use Rattle.chip.specs.Chip.{erased, isBlank}
 use Rattle.chip.specs.Geometry.{sized}
 use Rattle.probe.specs.Probe.{keep, around, outward, probe}
-use Rattle.region.specs.Layout.{bigEndian, littleEndian, recordBytes}
+use Rattle.format.specs.Layout.{bigEndian, littleEndian, recordBytes}
 use Rattle.region.specs.Walk.{metOf, walkIn, walkFrom, firstOf}
 use Rattle.plans.specs.declared.Answer.the-variants.{Written}
 use Rattle.store.specs.Call.{initialise}

@@ -9,10 +9,10 @@ use lib.Dec.{ltb}
 use lib.ListN.{length, getD}
 use borrow.Author.Tests.{eqb-true}
 use Rattle.probe.specs.Probe.{probes}
-use Rattle.region.specs.declared.Record.{Record}
+use Rattle.format.specs.declared.Record.{Record}
 use Rattle.region.specs.declared.Fault.{Fault}
 use Rattle.region.specs.declared.Fault.the-variants.{UnsupportedVersion, CorruptData}
-use Rattle.region.specs.Layout.{checkSumFits}
+use Rattle.format.specs.Layout.{checkSumFits}
 use Rattle.region.specs.Walk.{bytesIn, valueLength}
 use Rattle.lookup.specs.declared.refusals.Refusal.{Refusal}
 use Rattle.lookup.specs.declared.Room.{Room}

@@ -10,7 +10,7 @@ use lib.ListN.{length}
 use Rattle.chip.specs.Chip.{erased}
 use Rattle.chip.specs.Geometry.{sized, geometry, numbers}
 use Rattle.probe.specs.Probe.{allowedKey}
-use Rattle.region.specs.Layout.{edition, largestValue}
+use Rattle.format.specs.Layout.{edition, largestValue}
 use Rattle.lookup.specs.declared.refusals.Refusal.{Refusal}
 use Rattle.lookup.specs.declared.refusals.Check.{Check}
 use Rattle.lookup.specs.Refusals.{refusalUnder, firstRefusal}

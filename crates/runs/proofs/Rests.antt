@@ -12,7 +12,7 @@ use borrow.Author.Tests.{ltb-true, ltb-false}
 use Rattle.chip.specs.Chip.{written}
 use Rattle.chip.specs.Geometry.{Fits, regionOf}
 use Rattle.chip.proofs.Image.{region-length, fits-written, fits-erased}
-use Rattle.region.specs.declared.Record.{Record}
+use Rattle.format.specs.declared.Record.{Record}
 use Rattle.region.specs.Walk.{valueLength, valueIn}
 use Rattle.plans.specs.declared.Lent.{Lent}
 use Rattle.plans.specs.declared.Edit.{Edit}

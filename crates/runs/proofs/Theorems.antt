@@ -12,7 +12,7 @@ use mathlib.Core.Logic.{inl, _↔_}
 use lib.ListN.{length, take, drop, replicate}
 use Rattle.chip.specs.Chip.{Bytes}
 use Rattle.chip.specs.Geometry.{Fits}
-use Rattle.region.specs.declared.Removal.{Removal}
+use Rattle.format.specs.declared.Removal.{Removal}
 use Rattle.lookup.specs.declared.refusals.Refusal.{Refusal}
 use Rattle.plans.specs.declared.Answer.the-variants.{Refused, Complete, Written}
 use Rattle.plans.specs.Planning.{refuses}

@@ -5,7 +5,7 @@ use mathlib.Core.List.{List, [], _∷_}
 use lib.ListN.{length, take, drop}
 use Rattle.chip.specs.Chip.{written}
 use Rattle.chip.specs.Geometry.{regionOf, eraseRegion}
-use Rattle.region.specs.declared.Removal.{Removal}
+use Rattle.format.specs.declared.Removal.{Removal}
 use Rattle.plans.specs.declared.Answer.{Answer}
 use Rattle.plans.specs.Answers.{refusal}
 use Rattle.store.specs.Read.{getOf}

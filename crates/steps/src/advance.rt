@@ -15,7 +15,7 @@ use plans::First;
 use plans::Lent;
 use plans::Plan;
 use plans::Then;
-use region::Record;
+use format::Record;
 use running::Op;
 use running::Reply;
 

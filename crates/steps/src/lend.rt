@@ -4,7 +4,7 @@ ghost use mathlib.Core.Bool.{true};
 ghost use Prim.Native.Nat.{_+_, _≤_};
 ghost use lib.ListN.{length};
 ghost use lib.Seq.{sets};
-ghost use Rattle.region.specs.Layout.{recordBytes};
+ghost use Rattle.format.specs.Layout.{recordBytes};
 ghost use Rattle.plans.specs.Writes.{valueLent, valueOf, laidIn};
 ghost use Rattle.plans.specs.Fits.{editFits};
 ghost use Rattle.running.specs.Rule.{Ruled};
@@ -21,10 +21,10 @@ fn lay_new(key: u64, lent: Lent, at: usize, region: &mut [u8], value: &[u8])
     ensures { λ _. ⌜ now (region .exit) ≡ sets (now (region .entry)) at (recordBytes key (valueOf lent (now (value .entry)))) ⌝ }
 {
     let Lent::Value(_) = lent else {
-        region::lay_record(region, at, key, b"");
+        format::lay_record(region, at, key, b"");
         return;
     };
-    region::lay_record(region, at, key, value);
+    format::lay_record(region, at, key, value);
 }
 
 // The bytes of an edit, at their own place in the region.
@@ -41,7 +41,7 @@ fn lay_edit(key: u64, lent: Lent, edit: Edit, n: usize, region: &mut [u8], value
             region: _,
             rec,
         } => {
-            region::lay_kill(region, how, rec);
+            format::lay_kill(region, how, rec);
         }
         Edit::Erase { region: _ } => {}
     }

@@ -1,6 +1,6 @@
 // The one-call form: the image lies in memory.
 ghost use mathlib.Core.Path.{_≡_};
-ghost use Rattle.region.specs.declared.Removal.{Removal};
+ghost use Rattle.format.specs.declared.Removal.{Removal};
 ghost use Rattle.store.specs.Read.{getOf};
 ghost use Rattle.store.specs.Write.{appendOf, removeOf, initialiseOf};
 ghost use Rattle.store.specs.Collect.{collectOf};

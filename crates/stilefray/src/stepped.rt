@@ -1,6 +1,6 @@
 // The stepped form: one flash service at a time.
 ghost use mathlib.Core.Path.{_≡_};
-ghost use Rattle.region.specs.declared.Removal.{Removal};
+ghost use Rattle.format.specs.declared.Removal.{Removal};
 ghost use Rattle.running.specs.Starts.{getStarted, appendStarted, removeStarted, collectStarted, initialiseStarted};
 ghost use Rattle.numbers.specs.Packs.{startNumbers};
 ghost use Rattle.stilefray.specs.Stepped.{badCall, stepNumbers, stepRegion, stepBuffer};

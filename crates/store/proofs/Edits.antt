@@ -10,9 +10,9 @@ use borrow.Author.Tests.{ltb-true}
 use Rattle.chip.specs.Chip.{written}
 use Rattle.chip.specs.Geometry.{Fits, eraseRegion}
 use Rattle.chip.proofs.Image.{place-small, region-inside, fits-written, fits-erased}
-use Rattle.region.specs.declared.Record.{Record}
-use Rattle.region.specs.declared.Removal.{Removal}
-use Rattle.region.specs.Layout.{recordBytes, killOffset, killBytes}
+use Rattle.format.specs.declared.Record.{Record}
+use Rattle.format.specs.declared.Removal.{Removal}
+use Rattle.format.specs.Layout.{recordBytes, killOffset, killBytes}
 use Rattle.plans.specs.declared.Edit.{Edit}
 use Rattle.plans.specs.declared.Edits.{Edits}
 use Rattle.plans.specs.declared.First.{First}

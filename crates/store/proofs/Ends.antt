@@ -12,10 +12,10 @@ use types.Run.{OneOf}
 use denote.Enum.Declared.{tagOf}
 use Rattle.chip.specs.Geometry.{Fits}
 use Rattle.probe.specs.Probe.{probes}
-use Rattle.region.specs.declared.Record.{Record}
-use Rattle.region.specs.declared.Removal.{Removal}
-use Rattle.region.specs.Layout.{recordLength, killPlace, killBytes}
-use Rattle.region.proofs.Theorems.{kill-length}
+use Rattle.format.specs.declared.Record.{Record}
+use Rattle.format.specs.declared.Removal.{Removal}
+use Rattle.format.specs.Layout.{recordLength, killPlace, killBytes}
+use Rattle.format.proofs.Killed.{kill-length}
 use Rattle.lookup.specs.declared.refusals.Refusal.{Refusal}
 use Rattle.lookup.specs.declared.refusals.Check.{Check}
 use Rattle.lookup.specs.declared.Need.{Need}

@@ -3,7 +3,7 @@ use Prim.Native.Nat.{ℕ}
 use mathlib.Core.List.{List, []}
 use mathlib.Core.Option.{Option, none, some}
 use lib.ListN.{length}
-use Rattle.region.specs.declared.Removal.{Removal}
+use Rattle.format.specs.declared.Removal.{Removal}
 use Rattle.plans.specs.declared.Answer.{Answer}
 use Rattle.plans.specs.declared.Aim.{Aim}
 use Rattle.store.specs.Read.{getOf}

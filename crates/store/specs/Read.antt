@@ -5,8 +5,8 @@ use mathlib.Core.List.{List, _++_}
 use lib.Dec.{ltb}
 use lib.ListN.{length, take, drop}
 use Rattle.chip.specs.Geometry.{regionOf}
-use Rattle.region.specs.declared.Record.{Record}
-use Rattle.region.specs.Layout.{checkSumFits}
+use Rattle.format.specs.declared.Record.{Record}
+use Rattle.format.specs.Layout.{checkSumFits}
 use Rattle.region.specs.Walk.{bytesIn, valueLength, valueIn}
 use Rattle.lookup.specs.declared.refusals.Refusal.{Refusal}
 use Rattle.lookup.specs.declared.Hit.{Hit}

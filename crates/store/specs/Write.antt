@@ -5,8 +5,8 @@ use mathlib.Core.List.{List, []}
 use lib.ListN.{length}
 use Rattle.chip.specs.Chip.{erased}
 use Rattle.probe.specs.Probe.{probes}
-use Rattle.region.specs.declared.Removal.{Removal}
-use Rattle.region.specs.Layout.{recordLength}
+use Rattle.format.specs.declared.Removal.{Removal}
+use Rattle.format.specs.Layout.{recordLength}
 use Rattle.lookup.specs.declared.refusals.Refusal.{Refusal}
 use Rattle.lookup.specs.declared.refusals.Check.{Check}
 use Rattle.lookup.specs.declared.Need.{Need}

@@ -6,7 +6,7 @@ ghost use Rattle.store.specs.Read.{readAnswer, readBuffer, getOf};
 use lookup::Hit;
 use lookup::Refusal;
 use plans::Answer;
-use region::Record;
+use format::Record;
 
 // Get's answer by a record of a region, for a buffer of so many bytes.
 pub fn read_answer(region: &[u8], rec: Record, capacity: usize) -> Answer
@@ -19,7 +19,7 @@ pub fn read_answer(region: &[u8], rec: Record, capacity: usize) -> Answer
     }
     let a = rec.at;
     let e = a + rec.len;
-    if region::check_sum_fits(&region[a..e]) {
+    if format::check_sum_fits(&region[a..e]) {
         Answer::Complete(len)
     } else {
         Answer::Refused(Refusal::InvalidCheckSum)

@@ -4,7 +4,7 @@ ghost use mathlib.Core.Bool.{true};
 ghost use Prim.Native.Nat.{_≤_};
 ghost use lib.ListN.{length};
 ghost use Rattle.chip.specs.Geometry.{Fits};
-ghost use Rattle.region.specs.declared.Removal.{Removal};
+ghost use Rattle.format.specs.declared.Removal.{Removal};
 ghost use Rattle.plans.specs.Writes.{listed, edited, applied};
 ghost use Rattle.plans.specs.Fits.{editFits, editsFit};
 ghost use Rattle.store.specs.Write.{endOf, carried, appendOf, removeOf, initialiseOf};
@@ -18,8 +18,8 @@ use plans::Edits;
 use plans::First;
 use plans::Plan;
 use plans::Then;
-use region::Record;
-use region::Removal;
+use format::Record;
+use format::Removal;
 
 // One edit of an image.
 fn make_edit(image: &mut [u8], s: usize, n: usize, edit: Edit, key: u64, value: &[u8])
@@ -28,10 +28,10 @@ fn make_edit(image: &mut [u8], s: usize, n: usize, edit: Edit, key: u64, value: 
 {
     match edit {
         Edit::Lay { region, at } => {
-            region::write_record(image, region * s + at, key, value);
+            format::write_record(image, region * s + at, key, value);
         }
         Edit::Kill { how, region, rec } => {
-            region::write_kill(image, region * s + rec.at, how, rec);
+            format::write_kill(image, region * s + rec.at, how, rec);
         }
         Edit::Erase { region } => {
             chip::erase_region(image, s, n, region);

@@ -6,8 +6,8 @@ use native.Mathlib.Omega.{arith}
 use mathlib.Core.Path.{_≡_, _∙_, ap}
 use lib.ListN.{getD}
 use denote.Ref.{now}
-use Rattle.region.specs.Walk.{bigEndianAt}
-use Rattle.region.proofs.Numbers.{big-room}
+use Rattle.format.specs.Layout.{bigEndianAt}
+use Rattle.format.proofs.Numbers.{big-room}
 use borrow.Author.Needs.{needs}
 use Rattle.region.proofs.walk.key_at.Statement.{statement}
 use Rattle.region.proofs.walk.key_at.Tie as tie

@@ -3,7 +3,7 @@
 use Prim.Native.Nat.{_+_, _*_, _^_, _≤_, _<_}
 use native.Mathlib.Omega.{arith}
 use mathlib.Core.Path.{_∙_}
-use Rattle.region.specs.Layout.{killOffset, killLength}
+use Rattle.format.specs.Layout.{killOffset, killLength}
 use Rattle.chip.proofs.Image.{fits-blank, region-small}
 use Rattle.plans.specs.declared.Edit.{Edit}
 use Rattle.plans.proofs.Facts.{edit-facts}

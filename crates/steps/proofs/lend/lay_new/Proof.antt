@@ -5,7 +5,7 @@ use Rattle.steps.proofs.Others.{not-value}
 use borrow.Author.Needs.{needs}
 use Rattle.steps.proofs.lend.lay_new.Statement.{statement}
 use Rattle.steps.proofs.lend.lay_new.Tie as tie
-use Rattle.region.proofs.lay_record.Reads as lay-record-reads
+use Rattle.format.proofs.lay_record.Reads as lay-record-reads
 
 enum-told : tie.Need-enum-told
 enum-told c = search needs

@@ -5,7 +5,7 @@ use mathlib.Core.Path.{_≡_, sym, _∙_, ap}
 use lib.ListN.{take, drop}
 use denote.Ref.{now}
 use borrow.Author.Tests.{lt-ltb, le-ltb}
-use Rattle.region.specs.Layout.{checkSumFits}
+use Rattle.format.specs.Layout.{checkSumFits}
 use Rattle.region.specs.Walk.{bytesIn}
 use borrow.Author.Needs.{needs}
 use Rattle.store.proofs.read.read_answer.Statement.{statement}

@@ -1,10 +1,10 @@
 -- `region::layout::sum_bytes` meets its contract: the four bytes are those of the definition.
 -- Assumes nothing.
 use native.Mathlib.Omega.{arith}
-use Rattle.region.proofs.Laid.{little-four}
+use Rattle.format.proofs.Laid.{little-four}
 use borrow.Author.Needs.{needs}
-use Rattle.region.proofs.layout.sum_bytes.Statement.{statement}
-use Rattle.region.proofs.layout.sum_bytes.Tie as tie
+use Rattle.format.proofs.layout.sum_bytes.Statement.{statement}
+use Rattle.format.proofs.layout.sum_bytes.Tie as tie
 
 cast-t3 : tie.Need-cast-t3
 cast-t3 c = search needs

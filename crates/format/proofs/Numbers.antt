@@ -9,8 +9,7 @@ use lib.ListN.{length, getD, take, drop, length-append, length-drop, List·getD-
 use lib.Seq.{getD-at, getD-drop, take-suc}
 use Rattle.chip.specs.Chip.{Bytes}
 use Rattle.chip.proofs.Laws.{bytes-cons, bytes-append}
-use Rattle.region.specs.Layout.{bigEndian, littleEndian, sumAt}
-use Rattle.region.specs.Walk.{bigEndianAt}
+use Rattle.format.specs.Layout.{bigEndian, littleEndian, bigEndianAt, sumAt}
 
 -- a number of fewer than 8 bytes has room for one more in 64 bits
 pub big-room : (n i : ℕ) → n < 256 ^ i → i < 8 → n * 256 + 255 < 2 ^ 64

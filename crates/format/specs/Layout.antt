@@ -2,11 +2,11 @@
 use Prim.Native.Nat.{ℕ, zero, suc, _+_, _-_, _*_, _/_, _%_}
 use mathlib.Core.Bool.{Bool}
 use mathlib.Core.List.{List, [], _∷_, _++_}
-use lib.Dec.{eqb}
+use lib.Dec.{leb, eqb}
 use lib.ListN.{length, getD, take, replicate}
 use Rattle.crc32.specs.Crc.{checksum}
-use Rattle.region.specs.declared.Record.{Record}
-use Rattle.region.specs.declared.Removal.{Removal}
+use Rattle.format.specs.declared.Record.{Record}
+use Rattle.format.specs.declared.Removal.{Removal}
 
 -- The numbers of the format. Those that an edition, the version byte, decides are functions of it.
 
@@ -54,6 +54,11 @@ unfoldable pub littleEndian : ℕ → ℕ → List ℕ
 littleEndian zero n = []
 littleEndian (suc k) n = n % 256 ∷ littleEndian k (n / 256)
 
+-- the number that k bytes from o on are, the highest first
+unfoldable pub bigEndianAt : ℕ → List ℕ → ℕ → ℕ
+bigEndianAt zero bytes o = 0
+bigEndianAt (suc k) bytes o = bigEndianAt k bytes o * 256 + getD bytes (o + k) 0
+
 -- Byte 0: version. Byte 1: top four bits flags, low four the high bits of the length. Byte 2: low eight bits of the length.
 -- Bytes 3 to 10: key, big-endian.
 abbrev pub header : ℕ → ℕ → ℕ → ℕ → List ℕ
@@ -66,6 +71,10 @@ headerAndValue key value = header edition 8 (recordLength (length value)) key ++
 -- The last 4 bytes: checksum of header and value, little-endian.
 unfoldable pub recordBytes : ℕ → List ℕ → List ℕ
 recordBytes key value = headerAndValue key value ++ littleEndian checkSumLength (checksum (headerAndValue key value))
+
+-- "It is live if the top bit of byte 1 is set." "The other three flag bits are not looked at".
+abbrev pub live : Record → Bool
+live x = leb 8 (x .flags)
 
 -- What is written to make a record dead, of the record alone: its version, flags, length and key as a walk saw them.
 

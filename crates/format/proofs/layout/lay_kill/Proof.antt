@@ -3,10 +3,10 @@
 use native.Mathlib.Nat.{add-zero}
 use native.Mathlib.Omega.{arith}
 use denote.Ref.{now}
-use Rattle.region.proofs.Laid.{stores, laid-zeros}
+use Rattle.format.proofs.Laid.{stores, laid-zeros}
 use borrow.Author.Needs.{needs}
-use Rattle.region.proofs.layout.lay_kill.Statement.{statement}
-use Rattle.region.proofs.layout.lay_kill.Tie as tie
+use Rattle.format.proofs.layout.lay_kill.Statement.{statement}
+use Rattle.format.proofs.layout.lay_kill.Tie as tie
 
 dead-header-requires : tie.Need-dead-header-requires
 dead-header-requires c κs = search needs

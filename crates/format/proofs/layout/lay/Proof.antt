@@ -6,8 +6,8 @@ use lib.ListN.{length}
 use denote.Ref.{now}
 use Rattle.chip.proofs.Lists.{part-stored}
 use borrow.Author.Needs.{needs}
-use Rattle.region.proofs.layout.lay.Statement.{statement}
-use Rattle.region.proofs.layout.lay.Tie as tie
+use Rattle.format.proofs.layout.lay.Statement.{statement}
+use Rattle.format.proofs.layout.lay.Tie as tie
 
 sub-copy : tie.Need-sub-copy
 sub-copy c = search needs

@@ -13,10 +13,10 @@ use Rattle.crc32.specs.Crc.{checksum}
 use Rattle.chip.specs.Chip.{written}
 use Rattle.chip.proofs.Lists.{sets-append, part-put}
 use Rattle.chip.proofs.Laws.{length-written, written-stores}
-use Rattle.region.specs.declared.Record.{Record}
-use Rattle.region.specs.declared.Removal.{Removal}
-use Rattle.region.specs.Layout.{edition, bigEndian, littleEndian, header, recordLength, headerAndValue, recordBytes, deadHeader, killBytes}
-use Rattle.region.proofs.Bytes.{length-header}
+use Rattle.format.specs.declared.Record.{Record}
+use Rattle.format.specs.declared.Removal.{Removal}
+use Rattle.format.specs.Layout.{edition, bigEndian, littleEndian, header, recordLength, headerAndValue, recordBytes, deadHeader, killBytes}
+use Rattle.format.proofs.Bytes.{length-header}
 
 pub big-eight : (n : ℕ) → n < 2 ^ 64
     → (n / 72057594037927936) ∷ (n / 281474976710656 % 256) ∷ (n / 1099511627776 % 256) ∷ (n / 4294967296 % 256) ∷ (n / 16777216 % 256) ∷ (n / 65536 % 256) ∷ (n / 256 % 256) ∷ (n % 256) ∷ [] ≡ bigEndian 8 n

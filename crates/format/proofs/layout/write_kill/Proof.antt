@@ -4,10 +4,10 @@ use native.Mathlib.Nat.{add-zero}
 use native.Mathlib.Omega.{arith}
 use denote.Ref.{now}
 use Rattle.chip.specs.Chip.{written}
-use Rattle.region.proofs.Laid.{writes, laid-zeros}
+use Rattle.format.proofs.Laid.{writes, laid-zeros}
 use borrow.Author.Needs.{needs}
-use Rattle.region.proofs.layout.write_kill.Statement.{statement}
-use Rattle.region.proofs.layout.write_kill.Tie as tie
+use Rattle.format.proofs.layout.write_kill.Statement.{statement}
+use Rattle.format.proofs.layout.write_kill.Tie as tie
 
 dead-header-requires : tie.Need-dead-header-requires
 dead-header-requires c κs = search needs

@@ -4,7 +4,7 @@ ghost use Prim.Native.Nat.{_+_, _%_, _≤_};
 ghost use lib.ListN.{length};
 ghost use lib.Seq.{sets};
 ghost use Rattle.chip.specs.Chip.{written};
-ghost use Rattle.region.specs.Layout.{header, littleEndian, recordBytes, killOffset, killPlace, killBytes, sumAt, checkSumFits};
+ghost use Rattle.format.specs.Layout.{header, littleEndian, recordBytes, killOffset, killPlace, killBytes, sumAt, checkSumFits};
 use crate::Record;
 use crate::Removal;
 

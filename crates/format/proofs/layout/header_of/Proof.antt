@@ -4,10 +4,10 @@ use Prim.Native.Nat.{ℕ, _+_, _*_, _/_, _%_}
 use native.Mathlib.Omega.{arith}
 use mathlib.Core.Path.{ap}
 use mathlib.Core.List.{List, _∷_}
-use Rattle.region.proofs.Laid.{big-eight}
+use Rattle.format.proofs.Laid.{big-eight}
 use borrow.Author.Needs.{needs}
-use Rattle.region.proofs.layout.header_of.Statement.{statement}
-use Rattle.region.proofs.layout.header_of.Tie as tie
+use Rattle.format.proofs.layout.header_of.Statement.{statement}
+use Rattle.format.proofs.layout.header_of.Tie as tie
 
 mul-t5 : tie.Need-mul-t5
 mul-t5 c = search needs

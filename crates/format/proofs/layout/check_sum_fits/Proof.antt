@@ -1,10 +1,10 @@
 -- `region::layout::check_sum_fits` meets its contract: the two sums are those of the definition.
 -- Assumes nothing.
 use native.Mathlib.Nat.{sub-zero}
-use Rattle.region.specs.Layout.{checkSumFits}
+use Rattle.format.specs.Layout.{checkSumFits}
 use borrow.Author.Needs.{needs}
-use Rattle.region.proofs.layout.check_sum_fits.Statement.{statement}
-use Rattle.region.proofs.layout.check_sum_fits.Tie as tie
+use Rattle.format.proofs.layout.check_sum_fits.Statement.{statement}
+use Rattle.format.proofs.layout.check_sum_fits.Tie as tie
 
 sub-end : tie.Need-sub-end
 sub-end c = search needs

@@ -3,8 +3,8 @@
 use Prim.Native.Nat.{_+_}
 use native.Mathlib.Omega.{arith}
 use borrow.Author.Needs.{needs}
-use Rattle.region.proofs.layout.sum_at.Statement.{statement}
-use Rattle.region.proofs.layout.sum_at.Tie as tie
+use Rattle.format.proofs.layout.sum_at.Statement.{statement}
+use Rattle.format.proofs.layout.sum_at.Tie as tie
 
 shared-slice-read-result : tie.Need-shared-slice-read-result
 shared-slice-read-result c = search needs
