@@ -15,8 +15,8 @@ use Rattle.chip.proofs.Image.{geometry-fits, fits-erased, region-erased-same, r
 use Rattle.chip.proofs.Theorems.{write-clears}
 use Rattle.format.specs.declared.Removal.{Removal}
 use Rattle.lookup.specs.declared.refusals.Refusal.{Refusal}
-use Rattle.plans.specs.declared.Verdict.{Verdict}
-use Rattle.plans.specs.Sweeps.{verdict}
+use Rattle.planning.specs.declared.Verdict.{Verdict}
+use Rattle.planning.specs.Sweeps.{verdict}
 use Rattle.plans.specs.Answers.{startsAnew}
 use Rattle.store.specs.Write.{Done, appendOf, removeOf, refused, initialiseOf}
 use Rattle.store.specs.Collect.{collectIn, collectOf}

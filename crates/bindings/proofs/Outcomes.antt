@@ -26,7 +26,7 @@ use Rattle.lookup.specs.Turns.{lookupIn, hitBy, hitAfter, hitOf}
 use Rattle.lookup.proofs.Scan.{fine, gathered-first, room-from, Roomy}
 use Rattle.plans.specs.declared.Answer.the-variants.{Written, Refused}
 use Rattle.plans.specs.Writes.{applied}
-use Rattle.plans.specs.Planning.{placePlan}
+use Rattle.planning.specs.Planning.{placePlan}
 use Rattle.store.specs.Write.{Done, refused, carried, appendBy, appendAfter, appendOf, removeBy, removeOf}
 
 -- What is allowed before anything is read.

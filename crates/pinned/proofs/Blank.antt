@@ -26,7 +26,7 @@ use Rattle.lookup.specs.Words.{roomOn, firstRoom}
 use Rattle.lookup.proofs.Scan.{gathered-first}
 use Rattle.plans.specs.declared.Answer.the-variants.{Written}
 use Rattle.plans.specs.Writes.{applied}
-use Rattle.plans.specs.Planning.{placePlan}
+use Rattle.planning.specs.Planning.{placePlan}
 use Rattle.store.specs.Write.{carried, appendBy, appendOf}
 use Rattle.store.specs.Call.{append}
 use Rattle.pinned.specs.When.{BadKey}

@@ -30,7 +30,7 @@ use Rattle.lookup.proofs.Scan.{gathered-first}
 use Rattle.plans.specs.declared.Answer.the-variants.{Complete, Written, Refused}
 use Rattle.plans.specs.Answers.{refusal}
 use Rattle.plans.specs.Writes.{applied}
-use Rattle.plans.specs.Planning.{placePlan}
+use Rattle.planning.specs.Planning.{placePlan}
 use Rattle.store.specs.Read.{gotBy, getOf}
 use Rattle.store.specs.Write.{Done, carried, appendBy, appendOf, removeBy, removeOf, initialiseBy, initialiseOf}
 use Rattle.store.specs.Call.{Call, get, append, remove, collect, initialise, outcome, answerOf}

@@ -16,8 +16,8 @@ use Rattle.probe.proofs.Theorems.{Distinct, none, one}
 use Rattle.region.specs.declared.Fault.{Fault}
 use Rattle.plans.specs.declared.Answer.{Answer}
 use Rattle.plans.specs.declared.Answer.the-variants.{Freed}
-use Rattle.plans.specs.declared.Verdict.{Verdict}
-use Rattle.plans.specs.Sweeps.{verdict}
+use Rattle.planning.specs.declared.Verdict.{Verdict}
+use Rattle.planning.specs.Sweeps.{verdict}
 use Rattle.store.specs.Write.{Done}
 use Rattle.store.specs.Call.{collect, answerOf, imageAfter}
 use Rattle.pinned.specs.When.{NotBad, FirstBad}

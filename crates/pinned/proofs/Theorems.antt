@@ -32,7 +32,7 @@ use Rattle.lookup.proofs.Scan.{gathered-first}
 use Rattle.plans.specs.declared.Answer.{Answer}
 use Rattle.plans.specs.declared.Answer.the-variants.{Complete, Written, Freed, Refused}
 use Rattle.plans.specs.Answers.{refusal}
-use Rattle.plans.specs.Planning.{placePlan, appendPlan}
+use Rattle.planning.specs.Planning.{placePlan, appendPlan}
 use Rattle.store.specs.Write.{Done, appendOf, removeOf, initialiseOf}
 use Rattle.store.specs.Read.{getOf}
 use Rattle.store.specs.Collect.{collectOf}

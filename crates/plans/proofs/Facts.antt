@@ -4,19 +4,13 @@ use Prim.Native.Nat.{ℕ, _+_, _-_, _≤_, _<_}
 use native.Mathlib.Omega.{arith}
 use mathlib.Core.Path.{_≡_, refl, subst}
 use mathlib.Core.Bool.{Bool, true, false, _&&_, cond}
-use mathlib.Core.List.{List}
 use lib.Dec.{ltb, leb}
-use lib.ListN.{length, take, drop}
 use borrow.Author.Tests.{ltb-true, leb-true, lt-ltb, le-leb}
-use Rattle.chip.specs.Chip.{isBlank}
 use Rattle.chip.proofs.Image.{both}
 use Rattle.format.specs.declared.Record.{Record}
 use Rattle.format.specs.declared.Removal.{Removal}
-use Rattle.format.specs.Layout.{recordLength}
-use Rattle.lookup.specs.declared.Need.{Need}
-use Rattle.lookup.specs.declared.Room.{Room}
 use Rattle.lookup.specs.declared.Seen.{Seen}
-use Rattle.lookup.specs.Gather.{unseen, orRoom, roomAt, noted}
+use Rattle.lookup.specs.Gather.{unseen}
 use Rattle.plans.specs.declared.Aim.{Aim}
 use Rattle.plans.specs.declared.Lent.{Lent}
 use Rattle.plans.specs.declared.Edit.{Edit}
@@ -24,10 +18,8 @@ use Rattle.plans.specs.declared.Edits.{Edits}
 use Rattle.plans.specs.declared.First.{First}
 use Rattle.plans.specs.declared.Then.{Then}
 use Rattle.plans.specs.declared.Plan.{Plan}
-use Rattle.plans.specs.Writes.{valueLent, inRegion, startOf, sizeOf, first, rest}
-use Rattle.plans.specs.Planning.{needOf}
-use Rattle.plans.specs.Fits.{lies, recordFits, placeFits, editFits, editsFit, roomFits, seenFits, lentFor, valueShort, thenFits, rests, planFits}
-use Rattle.plans.proofs.Shapes.{Needs, for-nothing, for-record, aim-needs}
+use Rattle.plans.specs.Writes.{valueLent, inRegion, startOf, sizeOf, first, rest, look}
+use Rattle.plans.specs.Fits.{lies, recordFits, placeFits, editFits, editsFit, seenFits, lentFor, valueShort, thenFits, rests, planFits}
 
 -- the other way from `both` (chip, Image)
 pub join : {t u : Bool} → t ≡ true → u ≡ true → (t && u) ≡ true
@@ -102,40 +94,6 @@ module _ (s n len : ℕ) where
   pub edits-facts : (es : Edits) {e : Edit} → editsFit s n len es ≡ true → first es ≡ First.Do e → (editFits s n len e ≡ true) × (editsFit s n len (rest es) ≡ true)
   edits-facts es h e = (subst (λ (f : First). firstFits f ≡ true) e (first-fits es h), rest-fits es h)
 
-  -- What a lookup has gathered.
-
-  -- one room or the other
-  either-fits : (room later : Room) → roomFits s n len room ≡ true → roomFits s n len later ≡ true → roomFits s n len (orRoom room later) ≡ true
-  either-fits Room.Nowhere later h k = k
-  either-fits (Room.At r o b) later h k = h
-
-  -- a region's room lies in it
-  at-fits : (r : ℕ) (region : List ℕ) (o : ℕ) → r < n → length region ≡ s → roomFits s n len (roomAt (recordLength len) r o region) ≡ true
-  at-fits r region o h l = go (leb (o + (len + 15)) (length region)) refl
-    where
-      go : (b : Bool) → leb (o + (len + 15)) (length region) ≡ b
-          → roomFits s n len (cond b (Room.At r o (isBlank (take (recordLength len) (drop o region)))) Room.Nowhere) ≡ true
-      go true e = let f : o + (len + 15) ≤ length region = leb-true _ _ e in place-fits s n len r o (h, omega arith)
-      go false e = refl
-
-  -- What holds of every room that fits holds of the room that was gathered: the one line of the proofs of plans that names the field.
-  pub by-room : (P : Room → Type 0) (seen : Seen) → ((room : Room) → roomFits s n len room ≡ true → P room) → seenFits s n len seen ≡ true → P (seen .room)
-  by-room P seen holds h = holds _ h
-
-  -- nothing, and what one more region adds to what is gathered for an aim
-  pub unseen-fits : seenFits s n len unseen ≡ true
-  unseen-fits = refl
-
-  pub noted-fits : (aim : Aim) (seen : Seen) (r : ℕ) (region : List ℕ) (o : ℕ) → r < n → length region ≡ s → seenFits s n len seen ≡ true
-      → seenFits s n len (noted seen (needOf aim len) r region o) ≡ true
-  noted-fits aim seen r region o h l f = go (aim-needs len aim)
-    where
-      go : {need : Need} → Needs len need → seenFits s n len (noted seen need r region o) ≡ true
-      go for-nothing = f
-      go for-record =
-          by-room (λ room. roomFits s n len (orRoom room (roomAt (recordLength len) r o region)) ≡ true) seen
-          (λ room g. either-fits room (roomAt (recordLength len) r o region) g (at-fits r region o h l)) f
-
 -- A plan: the facts of its test.
 
 pub record PlanFits (s n : ℕ) (lent : Lent) (p : Plan) : Type 0 where
@@ -165,6 +123,30 @@ module _ (s n : ℕ) (lent : Lent) where
 
   pub sweep-facts : (r k : ℕ) → thenFits s n lent (Then.Sweep r k) ≡ true → (r < n) × (k ≤ r)
   sweep-facts r k h = let (a, b) = both (ltb r n) (leb k r) h in (ltb-true r n a, leb-true k r b)
+
+  -- An edit is done: what is left of a plan that fits does. No refusal follows a write, whatever is left before it.
+  pub rest-of : (p : Plan) {e : Edit} → PlanFits s n lent p → first (p .edits) ≡ First.Do e → PlanFits s n lent (record { edits = rest (p .edits); next = p .next })
+  rest-of p {e} f h =
+      record {
+        value-short = f .value-short;
+        edits-good = rest-fits s n (valueLent lent) (p .edits) (f .edits-good);
+        next-good = f .next-good;
+        at-rest = go (p .next) (first (rest (p .edits))) (subst (λ (q : First). rests q (p .next) ≡ true) h (f .at-rest));
+      }
+    where
+      go : (t : Then) (q : First) → rests (First.Do e) t ≡ true → rests q t ≡ true
+      go (Then.Ends answer) First.Nothing h = refl
+      go (Then.Ends answer) (First.Do d) h = h
+      go (Then.Seek aim i seen) q h = refl
+      go (Then.Sweep r k) q h = refl
+      go (Then.Gives r x again) q h = h
+
+  -- A lookup begins, for whatever is lent.
+  pub begins-fits : {t : Bool} → t ≡ true → 1 ≤ n → (t && (ltb 0 n && seenFits s n (valueLent lent) unseen)) ≡ true
+  begins-fits h least = join h (join (lt-ltb 0 n (omega arith)) refl)
+
+  pub look-fits : (aim : Aim) → lentFor aim lent ≡ true → 1 ≤ n → thenFits s n lent (look aim) ≡ true
+  look-fits aim h least = begins-fits h least
 
 -- a value that is short enough
 pub short-facts : (lent : Lent) → valueShort lent ≡ true → valueLent lent ≤ 4079

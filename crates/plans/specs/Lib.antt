@@ -1,5 +1,3 @@
 pub mod Answers
 pub mod Writes
 pub mod Fits
-pub mod Planning
-pub mod Sweeps

@@ -1,19 +1,21 @@
--- What is lent to an operation; edits: what one writes or erases, and a list of them.
+-- What is lent to an operation; edits: what one writes or erases, and a list of them; a plan that has none.
 use Prim.Native.Nat.{ℕ, _+_, _-_, _*_}
-use mathlib.Core.Bool.{Bool, cond}
+use mathlib.Core.Bool.{cond}
 use mathlib.Core.List.{List, [], _∷_, map}
 use lib.Dec.{ltb}
 use lib.ListN.{length}
 use lib.Seq.{sets}
 use Rattle.chip.specs.Chip.{written}
 use Rattle.chip.specs.Geometry.{eraseRegion, numbers}
-use Rattle.format.specs.declared.Record.{Record}
-use Rattle.format.specs.declared.Removal.{Removal}
 use Rattle.format.specs.Layout.{recordLength, recordBytes, killPlace, killLength, killBytes}
+use Rattle.lookup.specs.Gather.{unseen}
+use Rattle.plans.specs.declared.Aim.{Aim}
 use Rattle.plans.specs.declared.Lent.{Lent}
 use Rattle.plans.specs.declared.Edit.{Edit}
 use Rattle.plans.specs.declared.Edits.{Edits}
 use Rattle.plans.specs.declared.First.{First}
+use Rattle.plans.specs.declared.Then.{Then}
+use Rattle.plans.specs.declared.Plan.{Plan}
 
 -- What is lent.
 
@@ -101,3 +103,12 @@ rest (Edits.One e) = Edits.Nil
 rest (Edits.Two e f) = Edits.One f
 rest (Edits.Three e f g) = Edits.Two f g
 rest (Edits.Erases i m) = cond (ltb i m) (Edits.Erases (i + 1) m) Edits.Nil
+
+-- A plan with nothing to write.
+
+abbrev pub follows : Then → Plan
+follows next = record { edits = Edits.Nil; next = next }
+
+-- a lookup begins
+abbrev pub look : Aim → Then
+look aim = Then.Seek aim 0 unseen

@@ -1,28 +1,16 @@
-// What an operation does with what its lookup found, as data: a plan is a list of edits and what follows them. Both forms of the store carry out the
-// same plans.
+// What an operation has to do, as data: a plan is a list of edits and what follows them. Both forms of the store carry out the same plans.
 mod answers;
 mod fits;
-mod planning;
-mod sweeps;
 mod writes;
 
 pub use answers::starts_anew;
 pub use fits::plan_fits;
-pub use planning::append_plan;
-pub use planning::given_plan;
-pub use planning::need_of;
-pub use planning::plan_for;
-pub use planning::refuse;
-pub use planning::remove_plan;
-pub use sweeps::judge;
-pub use sweeps::sweep_plan;
 pub use writes::first_of;
 pub use writes::rest_of;
 ghost use mathlib.Core.Path.{_≡_};
 ghost use Rattle.plans.specs.Writes.{valueLent, bufferLent};
 use lookup::Refusal;
 use lookup::Seen;
-use region::Fault;
 use format::Record;
 use format::Removal;
 
@@ -133,11 +121,4 @@ pub enum Then {
 pub struct Plan {
     pub edits: Edits,
     pub next: Then,
-}
-
-// What collect does with a region; a bad place is one of the image.
-pub enum Verdict {
-    Stands,
-    Erase,
-    Bad { fault: Fault, place: usize },
 }

@@ -19,11 +19,9 @@ use Rattle.plans.specs.declared.Lent.{Lent}
 use Rattle.plans.specs.declared.Edit.{Edit}
 use Rattle.plans.specs.declared.First.{First}
 use Rattle.plans.specs.declared.Then.{Then}
-use Rattle.plans.specs.Writes.{valueLent, valueOf, bufferLent, first}
+use Rattle.plans.specs.Writes.{valueLent, valueOf, bufferLent, first, follows, look}
 use Rattle.plans.specs.Fits.{lentFor, editFits, thenFits, rests}
-use Rattle.plans.specs.Planning.{follows, look}
-use Rattle.plans.proofs.Facts.{join, PlanFits, plan-facts, plan-fits, edits-facts, seek-facts, short-facts}
-use Rattle.plans.proofs.Plans.{look-fits}
+use Rattle.plans.proofs.Facts.{join, PlanFits, plan-facts, plan-fits, edits-facts, seek-facts, short-facts, look-fits}
 use Rattle.running.specs.declared.Op.{Op}
 use Rattle.running.specs.declared.Reply.{Reply}
 use Rattle.running.specs.declared.Wait.{Wait}

@@ -9,8 +9,7 @@ use Rattle.plans.specs.declared.Aim.{Aim}
 use Rattle.plans.specs.declared.Lent.{Lent}
 use Rattle.plans.specs.declared.Then.{Then}
 use Rattle.plans.specs.declared.Plan.{Plan}
-use Rattle.plans.specs.Writes.{valueLent}
-use Rattle.plans.specs.Planning.{follows, look}
+use Rattle.plans.specs.Writes.{valueLent, follows, look}
 use Rattle.running.specs.declared.Op.{Op}
 use Rattle.running.specs.declared.Start.{Start}
 

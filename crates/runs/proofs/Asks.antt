@@ -15,8 +15,8 @@ use Rattle.lookup.specs.declared.Looked.{Looked}
 use Rattle.lookup.specs.declared.Hit.{Hit}
 use Rattle.plans.specs.declared.Edit.{Edit}
 use Rattle.plans.specs.declared.Plan.{Plan}
-use Rattle.plans.specs.Planning.{placePlan, anew, appendPlan, removePlan}
-use Rattle.plans.proofs.Places.{by-place}
+use Rattle.planning.specs.Planning.{placePlan, anew, appendPlan, removePlan}
+use Rattle.planning.proofs.Places.{by-place}
 use Rattle.running.specs.declared.Request.{Request}
 use Rattle.running.specs.Waits.{requestEdit}
 use Rattle.runs.specs.Services.{edits}

@@ -25,12 +25,12 @@ use Rattle.lookup.specs.Turns.{turnOf, onTurn, lookupIn, readFrom, regionsRead,
 use Rattle.lookup.specs.Gather.{unseen}
 use Rattle.plans.specs.declared.Edit.{Edit}
 use Rattle.plans.specs.declared.Plan.{Plan}
-use Rattle.plans.specs.declared.Verdict.{Verdict}
+use Rattle.planning.specs.declared.Verdict.{Verdict}
 use Rattle.plans.specs.Answers.{startsAnew}
 use Rattle.plans.specs.Writes.{listed}
-use Rattle.plans.specs.Planning.{anew, placePlan, appendPlan, removePlan}
-use Rattle.plans.specs.Sweeps.{verdict}
-use Rattle.plans.proofs.Places.{by-place}
+use Rattle.planning.specs.Planning.{anew, placePlan, appendPlan, removePlan}
+use Rattle.planning.specs.Sweeps.{verdict}
+use Rattle.planning.proofs.Places.{by-place}
 use Rattle.store.specs.Read.{getOf}
 use Rattle.store.specs.Call.{Call, get, append, remove, collect, initialise}
 use Rattle.running.specs.declared.Request.{Request}

@@ -28,14 +28,14 @@ use Rattle.plans.specs.declared.Edit.{Edit}
 use Rattle.plans.specs.declared.First.{First}
 use Rattle.plans.specs.declared.Then.{Then}
 use Rattle.plans.specs.declared.Plan.{Plan}
-use Rattle.plans.specs.declared.Verdict.{Verdict}
+use Rattle.planning.specs.declared.Verdict.{Verdict}
 use Rattle.plans.specs.Answers.{refusal, startsAnew}
 use Rattle.plans.specs.Writes.{valueLent, bufferLent, first}
 use Rattle.plans.specs.Fits.{rests}
-use Rattle.plans.specs.Planning.{needOf, ends, anew, placePlan, plan}
-use Rattle.plans.specs.Sweeps.{verdict, sweptTo, sweepPlan}
-use Rattle.plans.proofs.Places.{by-place}
-use Rattle.plans.proofs.Shapes.{Shape, is-refused, is-given, is-removed, is-placed, is-anew, plan-shape}
+use Rattle.planning.specs.Planning.{needOf, ends, anew, placePlan, plan}
+use Rattle.planning.specs.Sweeps.{verdict, sweptTo, sweepPlan}
+use Rattle.planning.proofs.Places.{by-place}
+use Rattle.planning.proofs.Shapes.{Shape, is-refused, is-given, is-removed, is-placed, is-anew, plan-shape}
 use Rattle.store.specs.Read.{readAnswer}
 use Rattle.running.specs.declared.Op.{Op}
 use Rattle.running.specs.declared.Reply.{Reply}

@@ -34,11 +34,11 @@ use Rattle.plans.specs.declared.Edits.{Edits}
 use Rattle.plans.specs.declared.First.{First}
 use Rattle.plans.specs.declared.Then.{Then}
 use Rattle.plans.specs.declared.Plan.{Plan}
-use Rattle.plans.specs.declared.Verdict.{Verdict}
-use Rattle.plans.specs.Writes.{valueLent, listed, applied, edited, first, rest}
+use Rattle.planning.specs.declared.Verdict.{Verdict}
+use Rattle.plans.specs.Writes.{valueLent, listed, applied, edited, first, rest, follows, look}
 use Rattle.plans.specs.Fits.{rests}
-use Rattle.plans.specs.Planning.{needOf, follows, look, plan}
-use Rattle.plans.specs.Sweeps.{verdict, sweptTo, sweepPlan}
+use Rattle.planning.specs.Planning.{needOf, plan}
+use Rattle.planning.specs.Sweeps.{verdict, sweptTo, sweepPlan}
 use Rattle.plans.proofs.Lists.{listed-none, listed-some}
 use Rattle.store.specs.Write.{Done, refused, endOf, carried}
 use Rattle.store.specs.Collect.{collectIn}

@@ -10,7 +10,7 @@ use borrow.Author.Tests.{eq-eqb}
 use Rattle.chip.specs.Geometry.{Fits}
 use Rattle.plans.specs.declared.Lent.{Lent}
 use Rattle.plans.specs.declared.Then.{Then}
-use Rattle.plans.specs.Planning.{follows}
+use Rattle.plans.specs.Writes.{follows}
 use Rattle.store.specs.Call.{Call}
 use Rattle.running.specs.declared.Op.{Op}
 use Rattle.running.specs.declared.Start.{Start}

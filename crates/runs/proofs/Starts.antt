@@ -15,9 +15,8 @@ use Rattle.plans.specs.declared.Lent.{Lent}
 use Rattle.plans.specs.declared.Edit.{Edit}
 use Rattle.plans.specs.declared.First.{First}
 use Rattle.plans.specs.declared.Then.{Then}
-use Rattle.plans.specs.Writes.{valueLent, inRegion, startOf as beginsAt, sizeOf, first}
+use Rattle.plans.specs.Writes.{valueLent, inRegion, startOf as beginsAt, sizeOf, first, follows, look}
 use Rattle.plans.specs.Fits.{thenFits}
-use Rattle.plans.specs.Planning.{follows, look}
 use Rattle.plans.proofs.Facts.{edit-facts, edits-facts, seek-facts, sweep-facts}
 use Rattle.store.specs.Call.{Call, get, append, remove, collect, initialise, aimOf}
 use Rattle.running.specs.declared.Op.{Op}

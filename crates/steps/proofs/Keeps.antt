@@ -28,10 +28,10 @@ use Rattle.plans.specs.declared.Then.{Then}
 use Rattle.plans.specs.declared.Plan.{Plan}
 use Rattle.plans.specs.Writes.{valueLent, bufferLent, first}
 use Rattle.plans.specs.Fits.{seenFits, lentFor, thenFits, rests, planFits}
-use Rattle.plans.specs.Planning.{needOf, plan}
-use Rattle.plans.specs.Sweeps.{verdict}
-use Rattle.plans.proofs.Facts.{PlanFits, join, record-fits, noted-fits, seek-facts, sweep-facts, plan-fits}
-use Rattle.plans.proofs.Plans.{Sound, Known, live, bad, through, fits-sound, rest-of, ends-fits, sweep-fits, given-fits, plan-sound}
+use Rattle.planning.specs.Planning.{needOf, plan}
+use Rattle.planning.specs.Sweeps.{verdict}
+use Rattle.plans.proofs.Facts.{PlanFits, join, record-fits, seek-facts, sweep-facts, plan-fits, rest-of}
+use Rattle.planning.proofs.Plans.{Sound, Known, live, bad, through, fits-sound, ends-fits, sweep-fits, given-fits, plan-sound}
 use Rattle.store.specs.Read.{readAnswer}
 use Rattle.running.specs.declared.Op.{Op}
 use Rattle.running.specs.declared.Reply.{Reply}
@@ -39,6 +39,7 @@ use Rattle.running.specs.Rule.{Ruled}
 use Rattle.running.proofs.Rules.{plan-of}
 use Rattle.steps.specs.Advance.{closes, turnedTo, advanceNext, advanceFirst, advance, givenBy, given, nextPlan}
 use Rattle.steps.specs.Step.{nextOp}
+use Rattle.planning.proofs.Gathered.{noted-fits}
 
 -- What a lookup's turn leaves: an end that is known, or more that was gathered and lies in the chip.
 pub data TurnKnown (s n len : ℕ) : Turn → Type 0 where

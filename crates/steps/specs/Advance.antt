@@ -15,9 +15,9 @@ use Rattle.plans.specs.declared.Lent.{Lent}
 use Rattle.plans.specs.declared.First.{First}
 use Rattle.plans.specs.declared.Then.{Then}
 use Rattle.plans.specs.declared.Plan.{Plan}
-use Rattle.plans.specs.Writes.{valueLent, bufferLent, first, rest}
-use Rattle.plans.specs.Planning.{needOf, follows, refuses, plan, givenPlan}
-use Rattle.plans.specs.Sweeps.{verdict, sweepPlan}
+use Rattle.plans.specs.Writes.{valueLent, bufferLent, first, rest, follows}
+use Rattle.planning.specs.Planning.{needOf, refuses, plan, givenPlan}
+use Rattle.planning.specs.Sweeps.{verdict, sweepPlan}
 use Rattle.store.specs.Read.{readAnswer, readBuffer}
 use Rattle.running.specs.declared.Op.{Op}
 use Rattle.running.specs.declared.Reply.{Reply}

@@ -42,7 +42,7 @@ fn turned_to(aim: Aim, n: usize, i: usize, turn: Turn) -> Plan
     ensures { λ p. ⌜ p ≡ turnedTo aim n i turn ⌝ }
 {
     match turn {
-        Turn::Stop(looked) => plans::plan_for(aim, n, looked),
+        Turn::Stop(looked) => planning::plan_for(aim, n, looked),
         Turn::More(seen) => Plan {
             edits: Edits::Nil,
             next: Then::Seek {
@@ -62,7 +62,7 @@ fn seek_next(op: Op, aim: Aim, i: usize, seen: Seen, region: &[u8]) -> Plan
     let key = op.key;
     let lent = op.lent;
     let r = probe::probe_at(probe::get_region(key, n), n, i);
-    let need = plans::need_of(aim, lent.value());
+    let need = planning::need_of(aim, lent.value());
     let turn = lookup::take_turn(seen, key, need, r, region);
     turned_to(aim, n, i, closed(n, i, turn))
 }
@@ -88,12 +88,12 @@ fn advanced(op: Op, region: &[u8]) -> Plan
             next,
         },
         Then::Seek { aim, i, seen } => seek_next(op, aim, i, seen, region),
-        Then::Sweep { region: r, erased } => plans::sweep_plan(
+        Then::Sweep { region: r, erased } => planning::sweep_plan(
             op.s,
             op.n,
             r,
             erased,
-            plans::judge(r, region),
+            planning::judge(r, region),
         ),
         Then::Gives {
             region: _,
@@ -132,7 +132,7 @@ fn give(n: usize, lent: Lent, plan: Plan, region: &[u8], buffer: &mut [u8]) -> P
         return plan;
     };
     copy_lent(lent, rec, region, buffer);
-    plans::given_plan(n, anew, store::read_answer(region, rec, lent.buffer()))
+    planning::given_plan(n, anew, store::read_answer(region, rec, lent.buffer()))
 }
 
 // What is left with the host's reply.
@@ -149,7 +149,7 @@ pub fn next_plan(op: Op, reply: Reply, region: &[u8], buffer: &mut [u8]) -> Plan
         return plan;
     }
     let Reply::Done = reply else {
-        return plans::refuse(Refusal::FlashFailed);
+        return planning::refuse(Refusal::FlashFailed);
     };
     give(op.n, lent, advanced(op, region), region, buffer)
 }

@@ -20,12 +20,12 @@ use Rattle.plans.specs.declared.First.{First}
 use Rattle.plans.specs.declared.Lent.{Lent}
 use Rattle.plans.specs.declared.Plan.{Plan}
 use Rattle.plans.specs.declared.Then.{Then}
-use Rattle.plans.specs.declared.Verdict.{Verdict}
+use Rattle.planning.specs.declared.Verdict.{Verdict}
 use Rattle.plans.specs.Answers.{startsAnew}
 use Rattle.plans.specs.Writes.{valueLent, bufferLent, first, rest}
-use Rattle.plans.specs.Planning.{needOf, ends, anew, getPlan, placePlan, removePlan, initialisePlan, plan, givenPlan}
-use Rattle.plans.specs.Sweeps.{verdict, sweepPlan}
-use Rattle.plans.proofs.Places.{by-place}
+use Rattle.planning.specs.Planning.{needOf, ends, anew, getPlan, placePlan, removePlan, initialisePlan, plan, givenPlan}
+use Rattle.planning.specs.Sweeps.{verdict, sweepPlan}
+use Rattle.planning.proofs.Places.{by-place}
 use Rattle.store.specs.Read.{readAnswer}
 use Rattle.running.specs.declared.Op.{Op}
 use Rattle.running.specs.declared.Reply.{Reply}

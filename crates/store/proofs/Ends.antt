@@ -30,7 +30,7 @@ use Rattle.plans.specs.declared.Answer.the-variants.{Refused}
 use Rattle.plans.specs.declared.Then.{Then}
 use Rattle.plans.specs.declared.Plan.{Plan}
 use Rattle.plans.specs.Fits.{editsFit}
-use Rattle.plans.specs.Planning.{placePlan, appendPlan, removePlan}
+use Rattle.planning.specs.Planning.{placePlan, appendPlan, removePlan}
 use Rattle.plans.proofs.Then.{the-type}
 use Rattle.plans.proofs.Facts.{join, place-fits, record-fits}
 use Rattle.store.specs.Write.{endOf, carried, appendOf, removeOf}

@@ -6,8 +6,8 @@ use Rattle.chip.specs.Geometry.{geometry, regionOf, eraseRegion, numbers}
 use Rattle.lookup.specs.declared.refusals.Refusal.{Refusal}
 use Rattle.lookup.specs.Refusals.{refusalOf}
 use Rattle.plans.specs.declared.Answer.the-variants.{Freed}
-use Rattle.plans.specs.declared.Verdict.{Verdict}
-use Rattle.plans.specs.Sweeps.{verdict}
+use Rattle.planning.specs.declared.Verdict.{Verdict}
+use Rattle.planning.specs.Sweeps.{verdict}
 use Rattle.store.specs.Write.{Done, refused}
 
 -- the regions of a list in its order, with so many bytes freed before them. "A bad place ends the call with its refusal; regions before it are

@@ -20,7 +20,7 @@ use Rattle.plans.specs.declared.Then.{Then}
 use Rattle.plans.specs.declared.Plan.{Plan}
 use Rattle.plans.specs.Answers.{startsAnew}
 use Rattle.plans.specs.Writes.{listed, applied}
-use Rattle.plans.specs.Planning.{appendPlan, removePlan}
+use Rattle.planning.specs.Planning.{appendPlan, removePlan}
 use Rattle.store.specs.Read.{getOf}
 
 -- what a call answers, and what the image then is

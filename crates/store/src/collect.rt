@@ -3,7 +3,7 @@ ghost use mathlib.Core.Path.{_≡_};
 ghost use Rattle.store.specs.Collect.{collectOf};
 use lookup::Refusal;
 use plans::Answer;
-use plans::Verdict;
+use planning::Verdict;
 
 pub fn garbage_collect(image: &mut [u8], s: usize, n: usize) -> Answer
     ensures { λ r. ⌜ (r ≡ collectOf (now (image .entry)) s n .answer) × (now (image .exit) ≡ collectOf (now (image .entry)) s n .image) ⌝ }
@@ -19,7 +19,7 @@ pub fn garbage_collect(image: &mut [u8], s: usize, n: usize) -> Answer
         }
         let a = r * s;
         let e = a + s;
-        let verdict = plans::judge(r, &image[a..e]);
+        let verdict = planning::judge(r, &image[a..e]);
         match verdict {
             Verdict::Stands => {
                 r += 1;

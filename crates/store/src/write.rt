@@ -89,7 +89,7 @@ pub fn append_key(image: &mut [u8], s: usize, n: usize, key: u64, value: &[u8]) 
     }
     let need = Need::Room(value.len() + Record::LEAST);
     let looked = lookup::look_up(&image[..], s, n, key, need);
-    let plan = plans::append_plan(looked);
+    let plan = planning::append_plan(looked);
     carry_out(image, s, n, plan, key, value)
 }
 
@@ -100,7 +100,7 @@ fn remove(image: &mut [u8], s: usize, n: usize, key: u64, how: Removal) -> Answe
     if let Hit::Refused(refusal) = hit {
         return Answer::Refused(refusal);
     }
-    let plan = plans::remove_plan(how, hit);
+    let plan = planning::remove_plan(how, hit);
     carry_out(image, s, n, plan, key, b"")
 }
 

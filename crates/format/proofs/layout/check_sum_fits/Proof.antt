@@ -1,4 +1,4 @@
--- `region::layout::check_sum_fits` meets its contract: the two sums are those of the definition.
+-- `format::layout::check_sum_fits` meets its contract: the two sums are those of the definition.
 -- Assumes nothing.
 use native.Mathlib.Nat.{sub-zero}
 use Rattle.format.specs.Layout.{checkSumFits}

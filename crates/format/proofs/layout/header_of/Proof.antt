@@ -1,4 +1,4 @@
--- `region::layout::header_of` meets its contract: the key's eight bytes are those of the definition.
+-- `format::layout::header_of` meets its contract: the key's eight bytes are those of the definition.
 -- Assumes nothing.
 use Prim.Native.Nat.{ℕ, _+_, _*_, _/_, _%_}
 use native.Mathlib.Omega.{arith}

@@ -1,4 +1,4 @@
--- `region::layout::lay` meets its contract: the part that was lent is back, with the new bytes at its front.
+-- `format::layout::lay` meets its contract: the part that was lent is back, with the new bytes at its front.
 -- Assumes nothing.
 use Prim.Native.Nat.{_-_}
 use native.Mathlib.Omega.{arith}

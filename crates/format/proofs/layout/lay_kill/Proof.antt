@@ -1,4 +1,4 @@
--- `region::layout::lay_kill` meets its contract: byte 1 of the dead header alone, or that header and zeros behind it.
+-- `format::layout::lay_kill` meets its contract: byte 1 of the dead header alone, or that header and zeros behind it.
 -- Assumes nothing.
 use native.Mathlib.Nat.{add-zero}
 use native.Mathlib.Omega.{arith}

@@ -1,4 +1,4 @@
--- `region::layout::lay_record` meets its contract: header, value and checksum, one run after the other.
+-- `format::layout::lay_record` meets its contract: header, value and checksum, one run after the other.
 -- Assumes nothing.
 use Rattle.format.proofs.Laid.{stores, laid-record}
 use borrow.Author.Needs.{needs}

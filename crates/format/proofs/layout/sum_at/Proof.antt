@@ -1,4 +1,4 @@
--- `region::layout::sum_at` meets its contract: each byte is below 256.
+-- `format::layout::sum_at` meets its contract: each byte is below 256.
 -- Assumes nothing.
 use Prim.Native.Nat.{_+_}
 use native.Mathlib.Omega.{arith}

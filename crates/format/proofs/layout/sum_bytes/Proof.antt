@@ -1,4 +1,4 @@
--- `region::layout::sum_bytes` meets its contract: the four bytes are those of the definition.
+-- `format::layout::sum_bytes` meets its contract: the four bytes are those of the definition.
 -- Assumes nothing.
 use native.Mathlib.Omega.{arith}
 use Rattle.format.proofs.Laid.{little-four}

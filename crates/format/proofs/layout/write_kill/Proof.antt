@@ -1,4 +1,4 @@
--- `region::layout::write_kill` meets its contract: byte 1 of the dead header alone, or that header and zeros behind it.
+-- `format::layout::write_kill` meets its contract: byte 1 of the dead header alone, or that header and zeros behind it.
 -- Assumes nothing.
 use native.Mathlib.Nat.{add-zero}
 use native.Mathlib.Omega.{arith}

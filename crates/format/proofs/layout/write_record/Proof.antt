@@ -1,4 +1,4 @@
--- `region::layout::write_record` meets its contract: header, value and checksum, one run after the other.
+-- `format::layout::write_record` meets its contract: header, value and checksum, one run after the other.
 -- Assumes nothing.
 use Rattle.format.proofs.Laid.{writes, laid-record}
 use borrow.Author.Needs.{needs}

@@ -5,16 +5,16 @@ use native.Mathlib.Omega.{arith}
 use mathlib.Core.Path.{_≡_, refl, sym, _∙_, ap}
 use Rattle.chip.proofs.Image.{fits-blank, region-small}
 use Rattle.plans.specs.declared.Edits.{Edits}
-use Rattle.plans.specs.declared.Verdict.{Verdict}
+use Rattle.planning.specs.declared.Verdict.{Verdict}
 use Rattle.plans.specs.declared.Plan.{Plan}
-use Rattle.plans.specs.Sweeps.{sweepPlan}
+use Rattle.planning.specs.Sweeps.{sweepPlan}
 use Rattle.plans.proofs.Facts.{seek-facts, sweep-facts}
 use Rattle.running.proofs.Rules.{plan-of}
 use borrow.Author.Needs.{needs}
 use Rattle.steps.proofs.advance.advanced.Statement.{statement}
 use Rattle.steps.proofs.advance.advanced.Tie as tie
-use Rattle.plans.proofs.judge.Reads as judge-reads
-use Rattle.plans.proofs.sweep_plan.Reads as sweep-plan-reads
+use Rattle.planning.proofs.judge.Reads as judge-reads
+use Rattle.planning.proofs.sweep_plan.Reads as sweep-plan-reads
 use Rattle.plans.proofs.first_of.Reads as first-of-reads
 use Rattle.plans.proofs.rest_of.Reads as rest-of-reads
 use Rattle.steps.proofs.advance.seek_next.Reads as seek-next-reads

@@ -3,7 +3,7 @@
 use denote.Ref.{now}
 use lib.ListN.{length}
 use mathlib.Core.Path.{_∙_, ap}
-use Rattle.plans.specs.Planning.{givenPlan}
+use Rattle.planning.specs.Planning.{givenPlan}
 use Rattle.plans.proofs.Facts.{in-chip}
 use Rattle.store.specs.Read.{readAnswer}
 use Rattle.steps.proofs.Others.{not-gives}
@@ -11,7 +11,7 @@ use borrow.Author.Needs.{needs}
 use Rattle.steps.proofs.advance.give.Statement.{statement}
 use Rattle.steps.proofs.advance.give.Tie as tie
 use Rattle.plans.proofs.Lent.buffer.Reads as buffer-reads
-use Rattle.plans.proofs.given_plan.Reads as given-plan-reads
+use Rattle.planning.proofs.given_plan.Reads as given-plan-reads
 use Rattle.steps.proofs.advance.copy_lent.Reads as copy-lent-reads
 use Rattle.store.proofs.read_answer.Reads as read-answer-reads
 

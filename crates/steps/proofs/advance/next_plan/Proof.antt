@@ -9,7 +9,7 @@ use Rattle.steps.proofs.Others.{failed}
 use borrow.Author.Needs.{needs}
 use Rattle.steps.proofs.advance.next_plan.Statement.{statement}
 use Rattle.steps.proofs.advance.next_plan.Tie as tie
-use Rattle.plans.proofs.refuse.Reads as refuse-reads
+use Rattle.planning.proofs.refuse.Reads as refuse-reads
 use Rattle.steps.proofs.advance.advanced.Reads as advanced-reads
 use Rattle.steps.proofs.advance.give.Reads as give-reads
 

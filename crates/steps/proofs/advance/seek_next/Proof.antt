@@ -10,7 +10,7 @@ use Rattle.probe.specs.Probe.{probe, probes}
 use Rattle.lookup.specs.declared.Need.{Need}
 use Rattle.lookup.specs.Turns.{turnOf}
 use Rattle.plans.specs.Writes.{valueLent}
-use Rattle.plans.specs.Planning.{needOf}
+use Rattle.planning.specs.Planning.{needOf}
 use Rattle.plans.proofs.Facts.{short-facts}
 use Rattle.running.proofs.Rules.{plan-of}
 use Rattle.steps.specs.Advance.{closes, turnedTo}
@@ -19,7 +19,7 @@ use Rattle.steps.proofs.advance.seek_next.Statement.{statement}
 use Rattle.steps.proofs.advance.seek_next.Tie as tie
 use Rattle.lookup.proofs.take_turn.Reads as take-turn-reads
 use Rattle.plans.proofs.Lent.value.Reads as value-reads
-use Rattle.plans.proofs.need_of.Reads as need-of-reads
+use Rattle.planning.proofs.need_of.Reads as need-of-reads
 use Rattle.probe.proofs.get_region.Reads as get-region-reads
 use Rattle.probe.proofs.probe_at.Reads as probe-at-reads
 use Rattle.steps.proofs.advance.closed.Reads as closed-reads

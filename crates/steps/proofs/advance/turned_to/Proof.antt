@@ -3,7 +3,7 @@
 use borrow.Author.Needs.{needs}
 use Rattle.steps.proofs.advance.turned_to.Statement.{statement}
 use Rattle.steps.proofs.advance.turned_to.Tie as tie
-use Rattle.plans.proofs.plan_for.Reads as plan-for-reads
+use Rattle.planning.proofs.plan_for.Reads as plan-for-reads
 
 enum-known-turn : tie.Need-enum-known-turn
 enum-known-turn c = search needs
