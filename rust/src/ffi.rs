@@ -136,78 +136,91 @@ extern "C" {
 }
 
 /// `stilefray_get_key`.
+#[inline]
 pub fn get_key(image: &[u8], s: usize, n: usize, key: u64, buffer: &mut [u8]) -> AnswerNumbers {
     // SAFETY: both slices are valid for their lengths, and a `&mut` overlaps nothing.
     unsafe { stilefray_get_key(image.as_ptr(), image.len(), s, n, key, buffer.as_mut_ptr(), buffer.len()) }
 }
 
 /// `stilefray_append_key`.
+#[inline]
 pub fn append_key(image: &mut [u8], s: usize, n: usize, key: u64, value: &[u8]) -> AnswerNumbers {
     // SAFETY: both slices are valid for their lengths, and a `&mut` overlaps nothing.
     unsafe { stilefray_append_key(image.as_mut_ptr(), image.len(), s, n, key, value.as_ptr(), value.len()) }
 }
 
 /// `stilefray_invalidate_key`.
+#[inline]
 pub fn invalidate_key(image: &mut [u8], s: usize, n: usize, key: u64) -> AnswerNumbers {
     // SAFETY: the slice is valid for its length, and nothing else is lent.
     unsafe { stilefray_invalidate_key(image.as_mut_ptr(), image.len(), s, n, key) }
 }
 
 /// `stilefray_zeroise_key`.
+#[inline]
 pub fn zeroise_key(image: &mut [u8], s: usize, n: usize, key: u64) -> AnswerNumbers {
     // SAFETY: the slice is valid for its length, and nothing else is lent.
     unsafe { stilefray_zeroise_key(image.as_mut_ptr(), image.len(), s, n, key) }
 }
 
 /// `stilefray_garbage_collect`.
+#[inline]
 pub fn garbage_collect(image: &mut [u8], s: usize, n: usize) -> AnswerNumbers {
     // SAFETY: the slice is valid for its length, and nothing else is lent.
     unsafe { stilefray_garbage_collect(image.as_mut_ptr(), image.len(), s, n) }
 }
 
 /// `stilefray_initialise`.
+#[inline]
 pub fn initialise(image: &mut [u8], s: usize, n: usize, key: u64) -> AnswerNumbers {
     // SAFETY: the slice is valid for its length, and nothing else is lent.
     unsafe { stilefray_initialise(image.as_mut_ptr(), image.len(), s, n, key) }
 }
 
 /// `stilefray_checksum`.
+#[inline]
 pub fn checksum(bytes: &[u8]) -> u32 {
     // SAFETY: the slice is valid for its length, and nothing else is lent.
     unsafe { stilefray_checksum(bytes.as_ptr(), bytes.len()) }
 }
 
 /// `stilefray_start_get`.
+#[inline]
 pub fn start_get(s: usize, n: usize, key: u64, capacity: usize) -> StartNumbers {
     // SAFETY: numbers alone are passed, and any numbers are answered.
     unsafe { stilefray_start_get(s, n, key, capacity) }
 }
 
 /// `stilefray_start_append`.
+#[inline]
 pub fn start_append(s: usize, n: usize, key: u64, length: usize) -> StartNumbers {
     // SAFETY: numbers alone are passed, and any numbers are answered.
     unsafe { stilefray_start_append(s, n, key, length) }
 }
 
 /// `stilefray_start_invalidate`.
+#[inline]
 pub fn start_invalidate(s: usize, n: usize, key: u64) -> StartNumbers {
     // SAFETY: numbers alone are passed, and any numbers are answered.
     unsafe { stilefray_start_invalidate(s, n, key) }
 }
 
 /// `stilefray_start_zeroise`.
+#[inline]
 pub fn start_zeroise(s: usize, n: usize, key: u64) -> StartNumbers {
     // SAFETY: numbers alone are passed, and any numbers are answered.
     unsafe { stilefray_start_zeroise(s, n, key) }
 }
 
 /// `stilefray_start_collect`.
+#[inline]
 pub fn start_collect(s: usize, n: usize) -> StartNumbers {
     // SAFETY: numbers alone are passed, and any numbers are answered.
     unsafe { stilefray_start_collect(s, n) }
 }
 
 /// `stilefray_start_initialise`.
+#[inline]
 pub fn start_initialise(s: usize, n: usize, key: u64) -> StartNumbers {
     // SAFETY: numbers alone are passed, and any numbers are answered.
     unsafe { stilefray_start_initialise(s, n, key) }
@@ -215,6 +228,7 @@ pub fn start_initialise(s: usize, n: usize, key: u64) -> StartNumbers {
 
 /// `stilefray_step`. An operation that no start or step handed out, and a reply that is not 0 to 3, are answered too: BadCall, or the
 /// request of the running operation that the numbers stand for.
+#[inline]
 pub fn step(op: Operation, reply: u32, region: &mut [u8], value: &[u8], buffer: &mut [u8]) -> SteppedNumbers {
     let (region_at, region_len) = (region.as_mut_ptr(), region.len());
     let (buffer_at, buffer_len) = (buffer.as_mut_ptr(), buffer.len());

@@ -115,6 +115,7 @@ pub(crate) fn service<F: Flash + ?Sized>(request: Request, flash: &mut F, region
 }
 
 /// What the host says of a service.
+#[inline]
 pub(crate) fn reply_to(done: Result<(), NotDone>) -> Reply {
     match done {
         Ok(()) => Reply::Done,

@@ -78,6 +78,7 @@ pub fn initialise(image: &mut [u8], s: usize, n: usize, key: u64) -> Answer {
 }
 
 /// An answer by its numbers. The library gives no kind but 0 to 3 (that is proved of it); any other is taken for a refusal.
+#[inline]
 pub(crate) fn answer_of(numbers: ffi::AnswerNumbers) -> Answer {
     match numbers.kind {
         1 => Ok(Success::Complete(numbers.value)),

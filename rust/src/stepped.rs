@@ -58,6 +58,7 @@ pub enum Reply {
 
 impl Reply {
     /// The reply's number: 0 begin, 1 done, 2 not ready, 3 failed.
+    #[inline]
     pub fn number(self) -> u32 {
         match self {
             Reply::Begin => 0,
@@ -139,6 +140,7 @@ impl Running {
     ///
     /// A step alters `region` only where it asks for a write: the bytes to write then lie in it at their own place, and the rest stays
     /// as last read. It alters `buffer` only where a get answers: by the value's first bytes, as far as they fit.
+    #[inline]
     pub fn step(&mut self, reply: Reply, region: &mut [u8], value: &[u8], buffer: &mut [u8]) -> Request {
         let stepped = ffi::step(self.0, reply.number(), region, value, buffer);
         self.0 = stepped.op;
@@ -146,11 +148,13 @@ impl Running {
     }
 
     /// Whether the operation is fresh, so that the next step is given [`Reply::Begin`].
+    #[inline]
     pub fn is_fresh(&self) -> bool {
         self.0.fresh == 1
     }
 
     /// Whether the operation has ended: its answer was given, and any further step is BadCall.
+    #[inline]
     pub fn has_ended(&self) -> bool {
         self.0.next == Operation::NEXT_ENDED
     }
@@ -176,6 +180,7 @@ impl Running {
 }
 
 /// A request by its numbers. The library gives no kind but 1 to 4 (that is proved of it); any other is taken for BadCall.
+#[inline]
 fn request_of(numbers: RequestNumbers) -> Request {
     match numbers.kind {
         1 => Request::Read { region: numbers.region },

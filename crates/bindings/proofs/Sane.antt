@@ -24,7 +24,8 @@ use Rattle.lookup.specs.Turns.{hitOf}
 use Rattle.plans.specs.declared.Answer.{Answer}
 use Rattle.plans.specs.Answers.{refusal, startsAnew}
 use Rattle.store.specs.Write.{Done, appendOf, removeOf, initialiseBy, initialiseOf}
-use Rattle.store.specs.Read.{readAnswer, gotBy, getOf}
+use Rattle.values.specs.Values.{readAnswer}
+use Rattle.store.specs.Read.{gotBy, getOf}
 use Rattle.store.specs.Collect.{collectOf}
 use Rattle.store.specs.Call.{Call, get, append, remove, collect, initialise, answerOf}
 use Rattle.bindings.specs.WellFormed.{WellFormed}

@@ -1,4 +1,3 @@
-pub mod Answered
 pub mod Back
 pub mod Own
 pub mod Standing

@@ -12,10 +12,10 @@ use Rattle.running.specs.declared.Request.{Request}
 use Rattle.running.specs.Rule.{rule}
 use Rattle.numbers.specs.declared.COperation.{COperation}
 use Rattle.numbers.specs.declared.unpacks.KnownReply.{KnownReply}
-use Rattle.numbers.specs.Answers.{answerNumbers, requestNumbers}
+use Rattle.replies.specs.Answers.{answerNumbers, requestNumbers}
 use Rattle.numbers.specs.Packs.{few, over, packed, noOperation}
 use Rattle.numbers.specs.Unpacks.{KnownOp, standing, unpacked, replyNumber, knownReply}
-use Rattle.numbers.proofs.Answered.{answerIn, answer-back, requestIn, request-back}
+use Rattle.replies.proofs.Answered.{answerIn, answer-back, requestIn, request-back}
 use Rattle.numbers.proofs.Own.{own, no-layout}
 use Rattle.numbers.proofs.Standing.{Standing, runs, breaks, ended, stood}
 

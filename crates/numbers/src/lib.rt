@@ -1,10 +1,7 @@
-// The store's answers, requests and running operations as C and Rust see them: plain structs of numbers.
-mod answers;
+// The store's running operations as C and Rust see them: plain structs of numbers.
 mod packs;
 mod unpacks;
 
-pub use answers::answer_numbers;
-pub use answers::request_numbers;
 pub use packs::pack;
 pub use packs::pack_start;
 pub use unpacks::KnownReply;
@@ -13,15 +10,7 @@ pub use unpacks::read_as;
 pub use unpacks::stands;
 ghost use mathlib.Core.Path.{_≡_};
 ghost use Rattle.numbers.specs.Packs.{noOperation};
-
-// An answer. `kind` is 0 refused, 1 complete, 2 written, 3 freed; `refusal` the refusal's number, 0 where none; `value` what the answer
-// carries: a value's length, or the bytes freed.
-#[repr(C)]
-pub struct CAnswer {
-    pub kind: u32,
-    pub refusal: u32,
-    pub value: usize,
-}
+use replies::CRequest;
 
 // A running operation. `layout` says which numbering this is: a host may have kept an operation over an update of the library. What is not used is 0.
 // `fresh` is 1 where nothing was asked for yet; `lent` 0 nothing, 1 a value, 2 a buffer, of `len` bytes.
@@ -128,18 +117,6 @@ impl COperation {
 pub struct CStart {
     pub refusal: u32,
     pub op: COperation,
-}
-
-// What a step asks for. `kind` is 1 read `region`, 2 write the region buffer's bytes from `from` up to `to` at the image place `place`,
-// 3 erase `region`, 4 nothing more: `answer` is the answer.
-#[repr(C)]
-pub struct CRequest {
-    pub kind: u32,
-    pub region: usize,
-    pub from: usize,
-    pub to: usize,
-    pub place: usize,
-    pub answer: CAnswer,
 }
 
 #[repr(C)]

@@ -1,7 +1,7 @@
 // The chip that the lines speak of, and the calls on it.
 ghost use Prim.Native.Nat.{_≤_};
 use crate::line::Line;
-use numbers::CAnswer;
+use replies::CAnswer;
 
 // The chip's geometry.
 pub struct Chip {

@@ -36,7 +36,7 @@ use Rattle.planning.specs.Planning.{needOf, ends, anew, placePlan, plan}
 use Rattle.planning.specs.Sweeps.{verdict, sweptTo, sweepPlan}
 use Rattle.planning.proofs.Places.{by-place}
 use Rattle.planning.proofs.Shapes.{Shape, is-refused, is-given, is-removed, is-placed, is-anew, plan-shape}
-use Rattle.store.specs.Read.{readAnswer}
+use Rattle.values.specs.Values.{readAnswer}
 use Rattle.running.specs.declared.Op.{Op}
 use Rattle.running.specs.declared.Reply.{Reply}
 use Rattle.running.specs.declared.Wait.{Wait}

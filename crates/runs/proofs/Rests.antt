@@ -23,7 +23,7 @@ use Rattle.plans.specs.Writes.{valueLent, valueOf, startOf, bytesOf, sizeOf, ed
 use Rattle.plans.specs.Fits.{editFits, thenFits, rests}
 use Rattle.plans.proofs.Facts.{in-chip, edits-facts}
 use Rattle.plans.proofs.Laid.{laid-length, laid-there}
-use Rattle.store.specs.Read.{readBuffer}
+use Rattle.values.specs.Values.{readBuffer}
 use Rattle.running.specs.declared.Op.{Op}
 use Rattle.running.specs.declared.Reply.{Reply}
 use Rattle.running.specs.declared.Wait.{Wait}
@@ -32,7 +32,7 @@ use Rattle.running.specs.Waits.{waitFirst, waitOf, requestEdit, requestFor, req
 use Rattle.running.specs.Rule.{serves, replyFits, buffersFit, Ruled}
 use Rattle.running.proofs.Rules.{plan-of, fits-of, value-lent}
 use Rattle.steps.specs.Advance.{advanceFirst, advance, given, filled, filledBy, copied, nextPlan, bufferOn}
-use Rattle.steps.specs.Lend.{laidFor, laid}
+use Rattle.laying.specs.Lend.{laidFor, laid}
 use Rattle.steps.specs.Step.{fitsHere, stepped, regionAfter, bufferAfter}
 use Rattle.steps.proofs.Keeps.{advance-gives, next-ruled}
 use Rattle.runs.specs.Host.{Host, imageServed, regionServed, Inside, reads, asks, waited, served}

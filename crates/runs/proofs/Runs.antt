@@ -19,7 +19,7 @@ use Rattle.running.specs.Starts.{started}
 use Rattle.running.specs.Waits.{waitOf}
 use Rattle.running.specs.Rule.{buffersFit, Ruled}
 use Rattle.running.proofs.Rules.{fits-of}
-use Rattle.steps.specs.Lend.{laid}
+use Rattle.laying.specs.Lend.{laid}
 use Rattle.steps.specs.Step.{stepped, regionAfter, bufferAfter}
 use Rattle.runs.specs.Host.{Run, asks, begun, drive, readies, startOf, Lends, lends-get, lends-append, lends-remove, lends-collect, lends-initialise}
 use Rattle.runs.specs.Services.{services, Ends}

@@ -1,11 +1,8 @@
 // A call one service at a time, held against the same call made in one.
 use crate::call;
 use crate::call::Call;
-use crate::compare;
-use crate::host;
-use crate::host::Host;
-use crate::numbers::Numbers;
-use crate::print;
+use host::Host;
+use host::Numbers;
 use plans::Answer;
 use running::Op;
 use running::Request;
@@ -28,7 +25,7 @@ pub fn get(
 pub fn change(what: &[u8], call: Call, image: &mut [u8; 256], value: &[u8], host: Host) {
     let old = *image;
     both(what, call, image, value, &mut [], &mut [], host);
-    compare::changes(&old, image);
+    host::changes(&old, image);
 }
 
 // A call whose service of this number fails. In one call there is no such thing.
@@ -36,7 +33,7 @@ pub fn fail(what: &[u8], call: Call, image: &mut [u8; 256], service: usize) {
     let old = *image;
     report::line(what);
     run(call, image, b"", &mut [], Host::failing(service));
-    compare::changes(&old, image);
+    host::changes(&old, image);
 }
 
 // A call in both forms, on images and buffers that are the same before.
@@ -55,7 +52,7 @@ fn both(
     let once = call::in_one(call, &mut other, value, twin);
     if !Numbers::of(stepped).same(Numbers::of_answer(once)) {
         report::line(b"  in one call: another answer");
-    } else if !compare::same_image(image, &other) {
+    } else if !host::same_image(image, &other) {
         report::line(b"  in one call: another image");
     } else if !report::same(buffer, twin) {
         report::line(b"  in one call: another buffer");
@@ -78,6 +75,6 @@ fn go(op: Op, image: &mut [u8; 256], value: &[u8], buffer: &mut [u8], host: Host
     let first = host::begin(op, &mut region, value, buffer);
     let last = host::drive(first, image, &mut region, value, buffer, host);
     let request = last.request;
-    print::outcome(b"  answer:", request);
+    host::outcome(b"  answer:", request);
     request
 }

@@ -1,12 +1,7 @@
 // The store one service at a time, on a flash that lies in memory: 4 regions of 64 bytes.
 // A line for each service that a step asks for and for each answer, held against the same call made in one.
 mod call;
-mod compare;
 mod forms;
-mod host;
-mod misuse;
-mod numbers;
-mod print;
 
 use call::Call;
 use forms::change;
@@ -23,8 +18,6 @@ fn main() {
     removals(&mut image);
     main_key();
     bad_place();
-    misuse::refused_starts();
-    misuse::bad_calls();
 }
 
 // Key 1 is at home in region 1.

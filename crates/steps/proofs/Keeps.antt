@@ -9,7 +9,6 @@ use lib.Dec.{ltb}
 use lib.ListN.{length, getD}
 use Rattle.probe.specs.Probe.{probes}
 use Rattle.probe.proofs.Theorems.{in-range}
-use Rattle.format.specs.declared.Record.{Record}
 use Rattle.region.specs.declared.Want.{Want}
 use Rattle.region.specs.declared.Event.{Event}
 use Rattle.region.specs.Walk.{eventIn}
@@ -32,7 +31,7 @@ use Rattle.planning.specs.Planning.{needOf, plan}
 use Rattle.planning.specs.Sweeps.{verdict}
 use Rattle.plans.proofs.Facts.{PlanFits, join, record-fits, seek-facts, sweep-facts, plan-fits, rest-of}
 use Rattle.planning.proofs.Plans.{Sound, Known, live, bad, through, fits-sound, ends-fits, sweep-fits, given-fits, plan-sound}
-use Rattle.store.specs.Read.{readAnswer}
+use Rattle.values.specs.Values.{readAnswer}
 use Rattle.running.specs.declared.Op.{Op}
 use Rattle.running.specs.declared.Reply.{Reply}
 use Rattle.running.specs.Rule.{Ruled}

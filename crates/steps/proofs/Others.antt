@@ -11,28 +11,18 @@ use Rattle.format.specs.declared.Record.{Record}
 use Rattle.plans.specs.declared.Lent.{Lent}
 use Rattle.plans.specs.declared.Then.{Then}
 use Rattle.plans.specs.declared.Plan.{Plan}
-use Rattle.plans.specs.Writes.{valueOf}
 use Rattle.plans.proofs.Lent as lent-type
 use Rattle.plans.proofs.Then as then-type
-use Rattle.running.specs.declared.Op.{Op}
-use Rattle.running.specs.declared.Wait.{Wait}
 use Rattle.running.specs.declared.Reply.{Reply}
 use Rattle.running.proofs.Wait as wait-type
 use Rattle.running.proofs.Reply as reply-type
 use Rattle.steps.specs.Advance.{givenBy, copied, filledBy}
-use Rattle.steps.specs.Lend.{laidFor, laid, laidOn}
 
 -- no buffer is lent
 pub not-buffer : (lent : Lent) (region : List ℕ) (x : Record) (buffer : List ℕ) → OneOf (0 ∷ 1 ∷ []) (tagOf lent-type.the-type lent) → buffer ≡ copied lent region x buffer
 not-buffer Lent.Nothing region x buffer k = refl
 not-buffer (Lent.Value len) region x buffer k = refl
 not-buffer (Lent.Buffer len) region x buffer k = absurd (⊎-elim (eqb-false 2 0 refl) (eqb-false 2 1 refl) k)
-
--- no value is lent
-pub not-value : (lent : Lent) (value : List ℕ) → OneOf (0 ∷ 2 ∷ []) (tagOf lent-type.the-type lent) → valueOf lent value ≡ []
-not-value Lent.Nothing value k = refl
-not-value (Lent.Value len) value k = absurd (⊎-elim (eqb-false 1 0 refl) (eqb-false 1 2 refl) k)
-not-value (Lent.Buffer len) value k = refl
 
 -- no value is to be given
 pub not-gives : (n : ℕ) (lent : Lent) (region : List ℕ) (p : Plan) (next : Then) (buffer : List ℕ) → OneOf (0 ∷ 1 ∷ 2 ∷ []) (tagOf then-type.the-type next)
@@ -42,23 +32,9 @@ not-gives n lent region p (Then.Seek aim i seen) buffer k = (refl, refl)
 not-gives n lent region p (Then.Sweep r e) buffer k = (refl, refl)
 not-gives n lent region p (Then.Gives r x anew) buffer k = absurd (⊎-elim (eqb-false 3 0 refl) (⊎-elim (eqb-false 3 1 refl) (eqb-false 3 2 refl)) k)
 
--- nothing is to be written
-pub not-edit : (key : ℕ) (value : List ℕ) (wait : Wait) (region : List ℕ) → OneOf (0 ∷ 1 ∷ 3 ∷ []) (tagOf wait-type.the-type wait) → region ≡ laidFor key value wait region
-not-edit key value Wait.Begin region k = refl
-not-edit key value (Wait.Read r) region k = refl
-not-edit key value (Wait.Edit e) region k = absurd (⊎-elim (eqb-false 2 0 refl) (⊎-elim (eqb-false 2 1 refl) (eqb-false 2 3 refl)) k)
-not-edit key value (Wait.Over answer) region k = refl
-
 -- a reply that is neither begin nor not ready nor done
 pub failed : (y : Reply) → OneOf (1 ∷ 2 ∷ 3 ∷ []) (tagOf reply-type.the-type y) → OneOf (0 ∷ 1 ∷ 3 ∷ []) (tagOf reply-type.the-type y) → OneOf (0 ∷ 2 ∷ 3 ∷ []) (tagOf reply-type.the-type y) → y ≡ Reply.Failed
 failed Reply.Begin a b k = absurd (⊎-elim (eqb-false 0 1 refl) (⊎-elim (eqb-false 0 2 refl) (eqb-false 0 3 refl)) a)
 failed Reply.Done a b k = absurd (⊎-elim (eqb-false 1 0 refl) (⊎-elim (eqb-false 1 2 refl) (eqb-false 1 3 refl)) k)
 failed Reply.NotReady a b k = absurd (⊎-elim (eqb-false 2 0 refl) (⊎-elim (eqb-false 2 1 refl) (eqb-false 2 3 refl)) b)
 failed Reply.Failed a b k = refl
-
--- a reply that is not "not ready"
-pub laid-else : (y : Reply) (op : Op) (region value : List ℕ) → OneOf (0 ∷ 1 ∷ 3 ∷ []) (tagOf reply-type.the-type y) → laidOn y op region value ≡ laid op region value
-laid-else Reply.Begin op region value k = refl
-laid-else Reply.Done op region value k = refl
-laid-else Reply.NotReady op region value k = absurd (⊎-elim (eqb-false 2 0 refl) (⊎-elim (eqb-false 2 1 refl) (eqb-false 2 3 refl)) k)
-laid-else Reply.Failed op region value k = refl

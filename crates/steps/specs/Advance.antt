@@ -18,7 +18,7 @@ use Rattle.plans.specs.declared.Plan.{Plan}
 use Rattle.plans.specs.Writes.{valueLent, bufferLent, first, rest, follows}
 use Rattle.planning.specs.Planning.{needOf, refuses, plan, givenPlan}
 use Rattle.planning.specs.Sweeps.{verdict, sweepPlan}
-use Rattle.store.specs.Read.{readAnswer, readBuffer}
+use Rattle.values.specs.Values.{readAnswer, readBuffer}
 use Rattle.running.specs.declared.Op.{Op}
 use Rattle.running.specs.declared.Reply.{Reply}
 

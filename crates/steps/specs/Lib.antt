@@ -1,3 +1,2 @@
 pub mod Advance
-pub mod Lend
 pub mod Step

@@ -12,7 +12,7 @@ use Rattle.running.specs.Waits.{withPlan, requestOf}
 use Rattle.running.specs.Rule.{callFits}
 use Rattle.steps.specs.declared.Stepped.{Stepped}
 use Rattle.steps.specs.Advance.{nextPlan, bufferOn}
-use Rattle.steps.specs.Lend.{laidOn}
+use Rattle.laying.specs.Lend.{laidOn}
 
 abbrev pub fitsHere : Op → Reply → List ℕ → List ℕ → List ℕ → Bool
 fitsHere op y region value buffer = callFits op y (length region) (length value) (length buffer)

@@ -114,7 +114,7 @@ fn copy_lent(lent: Lent, rec: Record, region: &[u8], buffer: &mut [u8])
     let Lent::Buffer(_) = lent else {
         return;
     };
-    store::copy_value(region, rec, buffer);
+    values::copy_value(region, rec, buffer);
 }
 
 // Where a value is to be given, it is copied from the region just read, and its answer says what follows.
@@ -132,7 +132,7 @@ fn give(n: usize, lent: Lent, plan: Plan, region: &[u8], buffer: &mut [u8]) -> P
         return plan;
     };
     copy_lent(lent, rec, region, buffer);
-    planning::given_plan(n, anew, store::read_answer(region, rec, lent.buffer()))
+    planning::given_plan(n, anew, values::read_answer(region, rec, lent.buffer()))
 }
 
 // What is left with the host's reply.

@@ -1,10 +1,8 @@
 // The store, one flash service at a time: each step of a running operation answers or asks for one service.
 // A step never sees the image: it is lent a region buffer, and the value or get's buffer where there is one.
 mod advance;
-mod lend;
 
 use advance::next_plan;
-use lend::lay_on;
 ghost use mathlib.Core.Path.{_≡_};
 ghost use Rattle.steps.specs.Step.{stepped, regionAfter, bufferAfter};
 use lookup::Refusal;
@@ -33,7 +31,7 @@ pub fn step(op: Op, reply: Reply, region: &mut [u8], value: &[u8], buffer: &mut 
     }
     let plan = next_plan(op, reply, &region[..], buffer);
     let after = op.with_plan(plan);
-    lay_on(reply, after, region, value);
+    laying::lay_on(reply, after, region, value);
     Stepped {
         op: after,
         request: running::request_of(after),

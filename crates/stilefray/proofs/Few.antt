@@ -26,7 +26,7 @@ use Rattle.plans.specs.Writes.{valueLent, bufferLent, first, rest}
 use Rattle.planning.specs.Planning.{needOf, ends, anew, getPlan, placePlan, removePlan, initialisePlan, plan, givenPlan}
 use Rattle.planning.specs.Sweeps.{verdict, sweepPlan}
 use Rattle.planning.proofs.Places.{by-place}
-use Rattle.store.specs.Read.{readAnswer}
+use Rattle.values.specs.Values.{readAnswer}
 use Rattle.running.specs.declared.Op.{Op}
 use Rattle.running.specs.declared.Reply.{Reply}
 use Rattle.steps.specs.Advance.{closes, turnedTo, advanceNext, advanceFirst, advance, givenBy, given, nextPlan}

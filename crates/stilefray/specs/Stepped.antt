@@ -11,7 +11,7 @@ use Rattle.steps.specs.Step.{stepped, regionAfter, bufferAfter}
 use Rattle.numbers.specs.declared.COperation.{COperation}
 use Rattle.numbers.specs.declared.CStepped.{CStepped}
 use Rattle.numbers.specs.declared.unpacks.KnownReply.{KnownReply}
-use Rattle.numbers.specs.Answers.{requestNumbers}
+use Rattle.replies.specs.Answers.{requestNumbers}
 use Rattle.numbers.specs.Packs.{packed}
 use Rattle.numbers.specs.Unpacks.{KnownOp, unpacked, knownReply}
 

@@ -60,7 +60,7 @@ fn bad_call(op: COperation) -> CStepped
 {
     CStepped {
         op,
-        request: numbers::request_numbers(Request::Answers(Answer::Refused(Refusal::BadCall))),
+        request: replies::request_numbers(Request::Answers(Answer::Refused(Refusal::BadCall))),
     }
 }
 
@@ -88,6 +88,6 @@ pub extern "C" fn stilefray_step(
     let request = stepped.request;
     CStepped {
         op: numbers::pack(after),
-        request: numbers::request_numbers(request),
+        request: replies::request_numbers(request),
     }
 }

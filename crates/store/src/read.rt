@@ -1,45 +1,8 @@
 // Get: the value of a key's record into a buffer.
 ghost use mathlib.Core.Path.{_≡_};
-ghost use Prim.Native.Nat.{_+_, _≤_};
-ghost use lib.ListN.{length};
-ghost use Rattle.store.specs.Read.{readAnswer, readBuffer, getOf};
+ghost use Rattle.store.specs.Read.{getOf};
 use lookup::Hit;
-use lookup::Refusal;
 use plans::Answer;
-use format::Record;
-
-// Get's answer by a record of a region, for a buffer of so many bytes.
-pub fn read_answer(region: &[u8], rec: Record, capacity: usize) -> Answer
-    requires { ⌜ (15 ≤ rec .len) × (rec .at + rec .len ≤ length (now region)) ⌝ }
-    ensures { λ r. ⌜ r ≡ readAnswer (now (region .entry)) rec capacity ⌝ }
-{
-    let len = rec.len - Record::LEAST;
-    if capacity < len {
-        return Answer::Refused(Refusal::BufferTooSmall(len));
-    }
-    let a = rec.at;
-    let e = a + rec.len;
-    if format::check_sum_fits(&region[a..e]) {
-        Answer::Complete(len)
-    } else {
-        Answer::Refused(Refusal::InvalidCheckSum)
-    }
-}
-
-// The value of a record of a region to the buffer's front, as much of it as the buffer takes.
-pub fn copy_value(region: &[u8], rec: Record, buffer: &mut [u8])
-    requires { ⌜ (15 ≤ rec .len) × (rec .at + rec .len ≤ length (now region)) ⌝ }
-    ensures { λ _. ⌜ now (buffer .exit) ≡ readBuffer (now (region .entry)) rec (now (buffer .entry)) ⌝ }
-{
-    let from = rec.at + Record::HEADER_LENGTH;
-    let len = rec.len - Record::LEAST;
-    let most = buffer.len();
-    if most < len {
-        bytes::copy(&region[from..from + most], buffer);
-        return;
-    }
-    bytes::copy(&region[from..from + len], buffer);
-}
 
 pub fn get_key(image: &[u8], s: usize, n: usize, key: u64, buffer: &mut [u8]) -> Answer
     ensures { λ r. ⌜ (r ≡ getOf (now (image .entry)) s n key (now (buffer .entry)) .answer) × (now (buffer .exit) ≡ getOf (now (image .entry)) s n key (now (buffer .entry)) .buffer) ⌝ }
@@ -51,8 +14,8 @@ pub fn get_key(image: &[u8], s: usize, n: usize, key: u64, buffer: &mut [u8]) ->
             let a = region * s;
             let e = a + s;
             let capacity = buffer.len();
-            copy_value(&image[a..e], rec, buffer);
-            read_answer(&image[a..e], rec, capacity)
+            values::copy_value(&image[a..e], rec, buffer);
+            values::read_answer(&image[a..e], rec, capacity)
         }
     }
 }

@@ -9,7 +9,7 @@ use Rattle.running.specs.declared.Op.{Op}
 use Rattle.running.specs.Waits.{withPlan, requestOf}
 use Rattle.running.specs.Rule.{Ruled}
 use Rattle.running.proofs.Rules.{fits-ruled, value-lent}
-use Rattle.steps.specs.Lend.{laidOn}
+use Rattle.laying.specs.Lend.{laidOn}
 use Rattle.steps.specs.Step.{nextOp, stepped, regionAfter, bufferAfter}
 use Rattle.steps.proofs.Keeps.{next-ruled}
 use borrow.Author.Needs.{needs}
@@ -19,7 +19,7 @@ use Rattle.running.proofs.Op.with_plan.Reads as with-plan-reads
 use Rattle.running.proofs.call_fits.Reads as call-fits-reads
 use Rattle.running.proofs.request_of.Reads as request-of-reads
 use Rattle.steps.proofs.advance.next_plan.Reads as next-plan-reads
-use Rattle.steps.proofs.lend.lay_on.Reads as lay-on-reads
+use Rattle.laying.proofs.lay_on.Reads as lay-on-reads
 
 -- the operation as it goes on
 after : (c : tie.After-with-plan) → let a = c .before .before .before .before .before .before .before .before .before .before .before .args in c .with-plan .result ≡ nextOp (a .op) (a .reply) (now (a .region))

@@ -5,7 +5,7 @@ use Rattle.steps.proofs.Others.{not-buffer}
 use borrow.Author.Needs.{needs}
 use Rattle.steps.proofs.advance.copy_lent.Statement.{statement}
 use Rattle.steps.proofs.advance.copy_lent.Tie as tie
-use Rattle.store.proofs.copy_value.Reads as copy-value-reads
+use Rattle.values.proofs.copy_value.Reads as copy-value-reads
 
 enum-told : tie.Need-enum-told
 enum-told c = search needs

@@ -5,7 +5,7 @@ use lib.ListN.{length}
 use mathlib.Core.Path.{_∙_, ap}
 use Rattle.planning.specs.Planning.{givenPlan}
 use Rattle.plans.proofs.Facts.{in-chip}
-use Rattle.store.specs.Read.{readAnswer}
+use Rattle.values.specs.Values.{readAnswer}
 use Rattle.steps.proofs.Others.{not-gives}
 use borrow.Author.Needs.{needs}
 use Rattle.steps.proofs.advance.give.Statement.{statement}
@@ -13,7 +13,7 @@ use Rattle.steps.proofs.advance.give.Tie as tie
 use Rattle.plans.proofs.Lent.buffer.Reads as buffer-reads
 use Rattle.planning.proofs.given_plan.Reads as given-plan-reads
 use Rattle.steps.proofs.advance.copy_lent.Reads as copy-lent-reads
-use Rattle.store.proofs.read_answer.Reads as read-answer-reads
+use Rattle.values.proofs.read_answer.Reads as read-answer-reads
 
 enum-known-next : tie.Need-enum-known-next
 enum-known-next c = search needs

@@ -1,7 +1,7 @@
 -- `stilefray::image::stilefray_zeroise_key` meets its contract: it is store's call, and its answer in numbers.
 -- Assumes nothing.
 use mathlib.Core.Path.{_∙_, ap}
-use Rattle.numbers.specs.Answers.{answerNumbers}
+use Rattle.replies.specs.Answers.{answerNumbers}
 use borrow.Author.Needs.{needs}
 use Rattle.stilefray.proofs.image.stilefray_zeroise_key.Statement.{statement}
 use Rattle.stilefray.proofs.image.stilefray_zeroise_key.Tie as tie

@@ -8,7 +8,8 @@ use lib.ListN.{length, take, drop}
 use denote.Ref.{now}
 use Rattle.chip.proofs.Image.{part-region}
 use Rattle.lookup.proofs.Ends.{Held, held}
-use Rattle.store.specs.Read.{readAnswer, readBuffer, getOf}
+use Rattle.values.specs.Values.{readAnswer, readBuffer}
+use Rattle.store.specs.Read.{getOf}
 use borrow.Author.Needs.{needs}
 use Rattle.store.proofs.read.get_key.Statement.{statement}
 use Rattle.store.proofs.read.get_key.Tie as tie
