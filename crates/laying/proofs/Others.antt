@@ -8,13 +8,13 @@ use borrow.Author.Tests.{eqb-false}
 use types.Run.{OneOf}
 use denote.Enum.Declared.{tagOf}
 use Rattle.plans.specs.declared.Lent.{Lent}
+use Rattle.plans.specs.declared.Then.{Then}
 use Rattle.plans.specs.Writes.{valueOf}
 use Rattle.plans.proofs.Lent as lent-type
 use Rattle.plans.proofs.Then as then-type
 use Rattle.running.specs.declared.Op.{Op}
-use Rattle.running.specs.declared.Wait.{Wait}
 use Rattle.running.specs.declared.Reply.{Reply}
-use Rattle.running.proofs.Wait as wait-type
+use Rattle.running.specs.Waits.{waitNext}
 use Rattle.running.proofs.Reply as reply-type
 use Rattle.laying.specs.Lend.{laidFor, laid, laidOn}
 
@@ -24,12 +24,12 @@ not-value Lent.Nothing value k = refl
 not-value (Lent.Value len) value k = absurd (⊎-elim (eqb-false 1 0 refl) (eqb-false 1 2 refl) k)
 not-value (Lent.Buffer len) value k = refl
 
--- nothing is to be written
-pub not-edit : (key : ℕ) (value : List ℕ) (wait : Wait) (region : List ℕ) → OneOf (0 ∷ 1 ∷ 3 ∷ []) (tagOf wait-type.the-type wait) → region ≡ laidFor key value wait region
-not-edit key value Wait.Begin region k = refl
-not-edit key value (Wait.Read r) region k = refl
-not-edit key value (Wait.Edit e) region k = absurd (⊎-elim (eqb-false 2 0 refl) (⊎-elim (eqb-false 2 1 refl) (eqb-false 2 3 refl)) k)
-not-edit key value (Wait.Over answer) region k = refl
+-- nothing is to be written before what follows
+pub next-unlaid : (key : ℕ) (value : List ℕ) (n : ℕ) (next : Then) (region : List ℕ) → region ≡ laidFor key value (waitNext key n next) region
+next-unlaid key value n (Then.Ends answer) region = refl
+next-unlaid key value n (Then.Seek aim i seen) region = refl
+next-unlaid key value n (Then.Sweep r k) region = refl
+next-unlaid key value n (Then.Gives r x anew) region = refl
 
 -- a reply that is not "not ready"
 pub laid-else : (y : Reply) (op : Op) (region value : List ℕ) → OneOf (0 ∷ 1 ∷ 3 ∷ []) (tagOf reply-type.the-type y) → laidOn y op region value ≡ laid op region value

@@ -10,10 +10,10 @@ ghost use Rattle.plans.specs.Fits.{editFits};
 ghost use Rattle.running.specs.Rule.{Ruled};
 ghost use Rattle.laying.specs.Lend.{laid, laidOn};
 use plans::Edit;
+use plans::First;
 use plans::Lent;
 use running::Op;
 use running::Reply;
-use running::Wait;
 
 // The record of an append at its own place in the region: of the lent value, or of none where none is lent.
 fn lay_new(key: u64, lent: Lent, at: usize, region: &mut [u8], value: &[u8])
@@ -53,8 +53,13 @@ fn lay(op: Op, region: &mut [u8], value: &[u8])
     ensures { λ _. ⌜ now (region .exit) ≡ laid op (now (region .entry)) (now (value .entry)) ⌝ }
 {
     let lent = op.lent;
-    let wait = running::wait_of(op);
-    let Wait::Edit(edit) = wait else {
+    let plan = op.plan;
+    let edits = plan.edits;
+    if op.fresh {
+        return;
+    }
+    let first = plans::first_of(edits);
+    let First::Do(edit) = first else {
         return;
     };
     lay_edit(op.key, lent, edit, op.n, region, value);

@@ -1,9 +1,9 @@
 // The written rule, and the calls that it allows.
 ghost use mathlib.Core.Path.{_≡_};
+ghost use Rattle.running.specs.Waits.{waitOf};
 ghost use Rattle.running.specs.Rule.{freshFits, rule, begins, serves, replyFits, buffersFit, callFits};
 use crate::Op;
 use crate::Reply;
-use crate::Wait;
 use plans::First;
 use plans::Lent;
 use plans::Then;
@@ -79,14 +79,36 @@ fn is_service(reply: Reply) -> bool
     }
 }
 
-fn reply_fits(wait: Wait, reply: Reply) -> bool
-    ensures { λ r. ⌜ r ≡ replyFits wait reply ⌝ }
+// Whether a reply may come to what an operation waits for: to a service whichever it is, so that the region it reads is not worked out here.
+fn reply_fits(op: Op, reply: Reply) -> bool
+    ensures { λ r. ⌜ r ≡ replyFits (waitOf op) reply ⌝ }
 {
-    match wait {
-        Wait::Begin => is_begin(reply),
-        Wait::Read(_) => is_service(reply),
-        Wait::Edit(_) => is_service(reply),
-        Wait::Over(_) => false,
+    let plan = op.plan;
+    let edits = plan.edits;
+    let next = plan.next;
+    if op.fresh {
+        return is_begin(reply);
+    }
+    let first = plans::first_of(edits);
+    if let First::Do(_) = first {
+        return is_service(reply);
+    }
+    match next {
+        Then::Ends(_) => false,
+        Then::Seek {
+            aim: _,
+            i: _,
+            seen: _,
+        } => is_service(reply),
+        Then::Sweep {
+            region: _,
+            erased: _,
+        } => is_service(reply),
+        Then::Gives {
+            region: _,
+            rec: _,
+            anew: _,
+        } => false,
     }
 }
 
@@ -114,5 +136,5 @@ pub fn call_fits(op: Op, reply: Reply, region: usize, value: usize, buffer: usiz
     if !buffers_fit(lent, value, buffer) {
         return false;
     }
-    reply_fits(crate::wait_of(op), reply)
+    reply_fits(op, reply)
 }

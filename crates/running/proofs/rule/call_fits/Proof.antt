@@ -4,14 +4,12 @@ use mathlib.Core.Path.{_≡_, sym, _∙_}
 use mathlib.Core.Bool.{true}
 use borrow.Author.Tests.{eq-eqb, ne-eqb, not-true, not-false}
 use Rattle.running.specs.Rule.{rule, callFits}
-use Rattle.running.proofs.Rules.{ruled}
 use borrow.Author.Needs.{needs}
 use Rattle.running.proofs.rule.call_fits.Statement.{statement}
 use Rattle.running.proofs.rule.call_fits.Tie as tie
 use Rattle.running.proofs.rule.buffers_fit.Reads as buffers-fit-reads
 use Rattle.running.proofs.rule.keeps_rule.Reads as keeps-rule-reads
 use Rattle.running.proofs.rule.reply_fits.Reads as reply-fits-reads
-use Rattle.running.proofs.waits.wait_of.Reads as wait-of-reads
 
 rule-here : (c : tie.Else1) → rule (c .before .before .args .op) ≡ true
 rule-here c = sym (c .before .keeps-rule .ensures) ∙ not-false _ (c .if1 .left)
@@ -34,9 +32,6 @@ returns-3 : tie.Need-returns-3
 unfolding callFits
 returns-3 c = rw (rule-here (c .before .before .before .before), eq-eqb _ _ (c .before .before .if2 .left), sym (c .before .buffers-fit .ensures) ∙ not-true _ (c .if3 .taken))
 
-wait-of-requires : tie.Need-wait-of-requires
-wait-of-requires c κs = ruled (c .before .before .before .before .before .before .args .op) (rule-here (c .before .before .before .before))
-
 reply-fits-requires : tie.Need-reply-fits-requires
 reply-fits-requires c κs = search needs
 
@@ -44,10 +39,9 @@ returns-4 : tie.Need-returns-4
 unfolding callFits
 returns-4 c =
     rw (
-      rule-here (c .before .before .before .before .before .before),
-      eq-eqb _ _ (c .before .before .before .before .if2 .left),
-      sym (c .before .before .before .buffers-fit .ensures) ∙ not-false _ (c .before .before .if3 .left),
-      sym (c .before .wait-of .ensures),
+      rule-here (c .before .before .before .before .before),
+      eq-eqb _ _ (c .before .before .before .if2 .left),
+      sym (c .before .before .buffers-fit .ensures) ∙ not-false _ (c .before .if3 .left),
     ) (c .reply-fits .ensures)
 
 pub call-fits-spec : {M : Type 1} → statement M
@@ -59,6 +53,5 @@ call-fits-spec =
     returns-2
     buffers-fit-requires
     returns-3
-    wait-of-requires
     reply-fits-requires
     returns-4)
