@@ -2,8 +2,8 @@
 // The image is well-formed all day, so that no walk meets a bad place.
 use crate::flash;
 use crate::print;
-use region::Event;
 use format::Record;
+use region::Event;
 use region::Want;
 ghost use mathlib.Core.Path.{_≡_};
 ghost use lib.ListN.{length};

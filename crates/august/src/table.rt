@@ -1,8 +1,8 @@
 // What is where: a row for each record of the image, and one for what is left of each region.
 use crate::flash;
 use crate::print;
-use region::Met;
 use format::Record;
+use region::Met;
 use region::Stop;
 ghost use mathlib.Core.Path.{_≡_};
 ghost use Prim.Native.Nat.{_≤_};

@@ -13,8 +13,8 @@ pub use turns::take_turn;
 ghost use mathlib.Core.Path.{_≡_};
 ghost use Rattle.lookup.specs.Gather.{unseen, withRoom};
 ghost use Rattle.lookup.specs.Turns.{refusedBy, hitBy, close};
-use region::Fault;
 use format::Record;
+use region::Fault;
 
 // What a lookup is for: append needs room for a record of so many bytes, nothing else needs any.
 pub enum Need {

@@ -2,8 +2,8 @@
 ghost use mathlib.Core.Path.{_≡_};
 ghost use lib.ListN.{getD};
 ghost use Rattle.lookup.specs.Refusals.{number, valueOf, refusalOf, refusalUnder, firstRefusal};
-use region::Fault;
 use format::Record;
+use region::Fault;
 
 // In the order of their numbers, 1 to 12.
 pub enum Refusal {

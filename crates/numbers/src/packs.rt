@@ -4,6 +4,7 @@ ghost use Rattle.plans.specs.Writes.{first};
 ghost use Rattle.numbers.specs.Packs.{lentNumber, lentLength, slotAt, killNumber, editNumbers, slotOf, few, aimNumber, nextAt, seekNumbers, endNumbers, nextNumbers, isNothing, over, freshNumber, inNumbers, packed, startNumbers, Looks, startLooks};
 use crate::COperation;
 use crate::CStart;
+use format::Removal;
 use lookup::Room;
 use plans::Aim;
 use plans::Answer;
@@ -12,7 +13,6 @@ use plans::Edits;
 use plans::Lent;
 use plans::Plan;
 use plans::Then;
-use format::Removal;
 use running::Op;
 use running::Start;
 

@@ -2,6 +2,8 @@
 ghost use mathlib.Core.Path.{_≡_};
 ghost use Rattle.numbers.specs.Unpacks.{lentIn, recordIn, editsIn, aimIn, gatheredIn, nextIn, readAs, ownFresh, ownLent, bare, ownEdit, ownAim, ownGathered, plain, leftIn, ownEnd, ownNext, standing, knownReply};
 use crate::COperation;
+use format::Record;
+use format::Removal;
 use lookup::Room;
 use lookup::Seen;
 use plans::Aim;
@@ -11,8 +13,6 @@ use plans::Edits;
 use plans::Lent;
 use plans::Plan;
 use plans::Then;
-use format::Record;
-use format::Removal;
 use running::Op;
 use running::Reply;
 

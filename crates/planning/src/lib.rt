@@ -8,9 +8,9 @@ pub use planning::need_of;
 pub use planning::plan_for;
 pub use planning::refuse;
 pub use planning::remove_plan;
+use region::Fault;
 pub use sweeps::judge;
 pub use sweeps::sweep_plan;
-use region::Fault;
 
 // What collect does with a region; a bad place is one of the image.
 pub enum Verdict {

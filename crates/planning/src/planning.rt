@@ -3,20 +3,20 @@ ghost use mathlib.Core.Path.{_≡_};
 ghost use Prim.Native.Nat.{_≤_};
 ghost use Rattle.plans.specs.declared.Edits.the-variants.{One};
 ghost use Rattle.planning.specs.Planning.{needOf, ends, refuses, writes, gives, anew, getPlan, placePlan, appendPlan, removePlan, initialisePlan, plan, givenPlan};
-use plans::Aim;
-use plans::Answer;
-use plans::Edit;
-use plans::Edits;
-use plans::Plan;
-use plans::Then;
+use format::Record;
+use format::Removal;
 use lookup::Hit;
 use lookup::Looked;
 use lookup::Need;
 use lookup::Refusal;
 use lookup::Room;
 use lookup::Seen;
-use format::Record;
-use format::Removal;
+use plans::Aim;
+use plans::Answer;
+use plans::Edit;
+use plans::Edits;
+use plans::Plan;
+use plans::Then;
 
 // What an aim's lookup is for, where a value of so many bytes is lent.
 pub fn need_of(aim: Aim, len: usize) -> Need

@@ -4,13 +4,13 @@ ghost use Prim.Native.Nat.{_+_, _*_, _≤_, _<_};
 ghost use lib.ListN.{length};
 ghost use Rattle.chip.specs.Geometry.{Shape};
 ghost use Rattle.planning.specs.Sweeps.{verdict, sweptTo, sweepPlan};
+use crate::Verdict;
+use lookup::Refusal;
 use plans::Answer;
 use plans::Edit;
 use plans::Edits;
 use plans::Plan;
 use plans::Then;
-use crate::Verdict;
-use lookup::Refusal;
 use region::Event;
 use region::Want;
 

@@ -13,9 +13,9 @@ use crate::First;
 use crate::Lent;
 use crate::Plan;
 use crate::Then;
+use format::Record;
 use lookup::Room;
 use lookup::Seen;
-use format::Record;
 
 fn lies_in(o: usize, len: usize, s: usize) -> bool
     ensures { λ r. ⌜ r ≡ lies o len s ⌝ }

@@ -9,10 +9,10 @@ pub use writes::first_of;
 pub use writes::rest_of;
 ghost use mathlib.Core.Path.{_≡_};
 ghost use Rattle.plans.specs.Writes.{valueLent, bufferLent};
-use lookup::Refusal;
-use lookup::Seen;
 use format::Record;
 use format::Removal;
+use lookup::Refusal;
+use lookup::Seen;
 
 // What a call answers.
 pub enum Answer {

@@ -6,9 +6,9 @@ ghost use Rattle.region.specs.Walk.{lengthAt, keyAt, metAt, eventIn};
 use crate::Event;
 use crate::Fault;
 use crate::Met;
-use format::Record;
 use crate::Stop;
 use crate::Want;
+use format::Record;
 
 // The 12 bits of length of the header at a place.
 fn length_at(region: &[u8], at: usize) -> usize

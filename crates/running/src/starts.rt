@@ -4,6 +4,7 @@ ghost use Rattle.format.specs.declared.Removal.{Removal};
 ghost use Rattle.running.specs.Starts.{startRefusal, startedOr, lookStarted, getStarted, appendStarted, removeStarted, collectStarted, initialiseStarted};
 use crate::Op;
 use crate::Start;
+use format::Removal;
 use lookup::Check;
 use lookup::Seen;
 use plans::Aim;
@@ -11,7 +12,6 @@ use plans::Edits;
 use plans::Lent;
 use plans::Plan;
 use plans::Then;
-use format::Removal;
 
 // What a start refuses.
 fn start_refusal(s: usize, n: usize, key: u64, len: usize) -> Check

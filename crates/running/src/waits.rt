@@ -11,13 +11,13 @@ ghost use Rattle.running.specs.Rule.{Ruled};
 use crate::Op;
 use crate::Request;
 use crate::Wait;
+use format::Record;
+use format::Removal;
 use lookup::Refusal;
 use plans::Answer;
 use plans::Edit;
 use plans::First;
 use plans::Then;
-use format::Record;
-use format::Removal;
 
 pub fn wait_of(op: Op) -> Wait
     requires { ⌜ Ruled op ⌝ }

@@ -6,6 +6,7 @@ ghost use lib.ListN.{length};
 ghost use Rattle.plans.specs.Fits.{thenFits};
 ghost use Rattle.running.specs.Rule.{Ruled};
 ghost use Rattle.steps.specs.Advance.{closes, turnedTo, seekNext, advance, given, copied, filled, nextPlan, bufferOn};
+use format::Record;
 use lookup::Refusal;
 use lookup::Seen;
 use lookup::Turn;
@@ -15,7 +16,6 @@ use plans::First;
 use plans::Lent;
 use plans::Plan;
 use plans::Then;
-use format::Record;
 use running::Op;
 use running::Reply;
 

@@ -2,8 +2,8 @@
 ghost use mathlib.Core.Path.{_≡_};
 ghost use Rattle.store.specs.Collect.{collectOf};
 use lookup::Refusal;
-use plans::Answer;
 use planning::Verdict;
+use plans::Answer;
 
 pub fn garbage_collect(image: &mut [u8], s: usize, n: usize) -> Answer
     ensures { λ r. ⌜ (r ≡ collectOf (now (image .entry)) s n .answer) × (now (image .exit) ≡ collectOf (now (image .entry)) s n .image) ⌝ }

@@ -8,6 +8,8 @@ ghost use Rattle.format.specs.declared.Removal.{Removal};
 ghost use Rattle.plans.specs.Writes.{listed, edited, applied};
 ghost use Rattle.plans.specs.Fits.{editFits, editsFit};
 ghost use Rattle.store.specs.Write.{endOf, carried, appendOf, removeOf, initialiseOf};
+use format::Record;
+use format::Removal;
 use lookup::Check;
 use lookup::Hit;
 use lookup::Need;
@@ -18,8 +20,6 @@ use plans::Edits;
 use plans::First;
 use plans::Plan;
 use plans::Then;
-use format::Record;
-use format::Removal;
 
 // One edit of an image.
 fn make_edit(image: &mut [u8], s: usize, n: usize, edit: Edit, key: u64, value: &[u8])
