@@ -7,7 +7,7 @@ use Rattle.chip.specs.Geometry.{sized, geometry, numbers}
 use Rattle.probe.specs.Probe.{keep, around, outward, probe}
 use Rattle.format.specs.Layout.{bigEndian, littleEndian, recordBytes, checkSumFits, bigEndianAt}
 use Rattle.region.specs.Walk.{metOf, walkIn, walkFrom, firstOf}
-use Rattle.lookup.specs.Refusals.{firstRefusal}
+use Rattle.refusals.specs.Refusals.{firstRefusal}
 use Rattle.lookup.specs.Turns.{lookFrom, hitOf}
 use Rattle.plans.specs.Writes.{applied}
 use Rattle.store.specs.Read.{getOf}

@@ -13,12 +13,12 @@ use Rattle.probe.specs.Probe.{allowedKey, probes}
 use Rattle.format.specs.declared.Record.{Record}
 use Rattle.format.specs.Layout.{recordLength, checkSumFits}
 use Rattle.region.specs.Walk.{bytesIn, valueLength, valueIn}
-use Rattle.lookup.specs.declared.refusals.Refusal.{Refusal}
-use Rattle.lookup.specs.declared.refusals.Check.{Check}
+use Rattle.refusals.specs.declared.Refusal.{Refusal}
+use Rattle.refusals.specs.declared.Check.{Check}
 use Rattle.lookup.specs.declared.Need.{Need}
 use Rattle.lookup.specs.declared.Looked.{Looked}
 use Rattle.lookup.specs.declared.Hit.{Hit}
-use Rattle.lookup.specs.Refusals.{firstRefusal}
+use Rattle.refusals.specs.Refusals.{firstRefusal}
 use Rattle.lookup.specs.Turns.{lookupIn, hitBy, hitOf}
 use Rattle.lookup.proofs.Ends.{held}
 use Rattle.plans.specs.declared.Answer.the-variants.{Complete, Refused}

@@ -14,7 +14,7 @@ use Rattle.chip.proofs.Lists.{Every}
 use Rattle.chip.proofs.Image.{geometry-fits, fits-erased, region-erased-same, region-erased-other}
 use Rattle.chip.proofs.Theorems.{write-clears}
 use Rattle.format.specs.declared.Removal.{Removal}
-use Rattle.lookup.specs.declared.refusals.Refusal.{Refusal}
+use Rattle.refusals.specs.declared.Refusal.{Refusal}
 use Rattle.planning.specs.declared.Verdict.{Verdict}
 use Rattle.planning.specs.Sweeps.{verdict}
 use Rattle.plans.specs.Answers.{startsAnew}

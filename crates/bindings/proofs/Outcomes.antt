@@ -10,17 +10,17 @@ use Rattle.chip.specs.Geometry.{Fits}
 use Rattle.probe.specs.Probe.{allowedKey, probes}
 use Rattle.probe.proofs.Theorems.{members}
 use Rattle.format.specs.declared.Record.{Record}
-use Rattle.region.specs.declared.Fault.{Fault}
+use Rattle.format.specs.declared.Fault.{Fault}
 use Rattle.format.specs.declared.Removal.{Removal}
 use Rattle.format.specs.Layout.{recordLength, recordBytes, killPlace, killBytes}
-use Rattle.lookup.specs.declared.refusals.Refusal.{Refusal}
-use Rattle.lookup.specs.declared.refusals.Check.{Check}
+use Rattle.refusals.specs.declared.Refusal.{Refusal}
+use Rattle.refusals.specs.declared.Check.{Check}
 use Rattle.lookup.specs.declared.Need.{Need}
 use Rattle.lookup.specs.declared.Room.{Room}
 use Rattle.lookup.specs.declared.Seen.{Seen}
 use Rattle.lookup.specs.declared.Looked.{Looked}
 use Rattle.lookup.specs.declared.Hit.{Hit}
-use Rattle.lookup.specs.Refusals.{refusalOf, firstRefusal}
+use Rattle.refusals.specs.Refusals.{refusalOf, firstRefusal}
 use Rattle.lookup.specs.Words.{firstRoom}
 use Rattle.lookup.specs.Turns.{lookupIn, hitBy, hitAfter, hitOf}
 use Rattle.lookup.proofs.Scan.{fine, gathered-first, room-from, Roomy}

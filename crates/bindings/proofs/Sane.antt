@@ -15,11 +15,11 @@ use Rattle.format.specs.declared.Record.{Record}
 use Rattle.format.specs.declared.Removal.{Removal}
 use Rattle.format.specs.Layout.{recordLength, checkSumFits}
 use Rattle.region.specs.Walk.{bytesIn, valueLength}
-use Rattle.lookup.specs.declared.refusals.Refusal.{Refusal}
-use Rattle.lookup.specs.declared.refusals.Check.{Check}
+use Rattle.refusals.specs.declared.Refusal.{Refusal}
+use Rattle.refusals.specs.declared.Check.{Check}
 use Rattle.lookup.specs.declared.Need.{Need}
 use Rattle.lookup.specs.declared.Hit.{Hit}
-use Rattle.lookup.specs.Refusals.{number, firstRefusal}
+use Rattle.refusals.specs.Refusals.{number, firstRefusal}
 use Rattle.lookup.specs.Turns.{hitOf}
 use Rattle.plans.specs.declared.Answer.{Answer}
 use Rattle.plans.specs.Answers.{refusal, startsAnew}

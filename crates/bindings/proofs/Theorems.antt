@@ -19,7 +19,7 @@ use Rattle.region.specs.declared.Stop.{Stop}
 use Rattle.format.specs.declared.Removal.{Removal}
 use Rattle.format.specs.Layout.{recordLength}
 use Rattle.region.specs.Walk.{ending}
-use Rattle.lookup.specs.declared.refusals.Refusal.{Refusal}
+use Rattle.refusals.specs.declared.Refusal.{Refusal}
 use Rattle.lookup.specs.declared.Need.{Need}
 use Rattle.lookup.specs.Gather.{unseen}
 use Rattle.lookup.specs.Turns.{regionsRead}

@@ -1,4 +1,4 @@
-// The record format: a record as its header says it, its bytes, and what is written to make one dead.
+// The record format: a record as its header says it, its bytes, what is wrong with a place that has none, and what is written to make one dead.
 mod layout;
 
 pub use layout::check_sum_fits;
@@ -43,6 +43,12 @@ impl Record {
     {
         Record::FLAGS_VALID <= self.flags
     }
+}
+
+// Why a place is bad: steps 3 and 4 of a walk.
+pub enum Fault {
+    UnsupportedVersion,
+    CorruptData,
 }
 
 // How a record is made dead: its top flag is cleared, or all of it but the header is.

@@ -1,6 +1,6 @@
 // Requests and answers in numbers, to compare two of them.
-use lookup::Refusal;
 use plans::Answer;
+use refusals::Refusal;
 use running::Request;
 
 pub struct Numbers {

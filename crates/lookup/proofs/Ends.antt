@@ -16,14 +16,14 @@ use Rattle.chip.proofs.Image.{place-small, region-inside, region-length}
 use Rattle.probe.specs.Probe.{probes}
 use Rattle.probe.proofs.Theorems.{members}
 use Rattle.format.specs.declared.Record.{Record}
-use Rattle.lookup.specs.declared.refusals.Check.{Check}
+use Rattle.refusals.specs.declared.Check.{Check}
 use Rattle.lookup.specs.declared.Need.{Need}
 use Rattle.lookup.specs.declared.Room.{Room}
 use Rattle.lookup.specs.declared.Seen.{Seen}
 use Rattle.lookup.specs.declared.Looked.{Looked}
 use Rattle.lookup.proofs.Looked.{the-type}
 use Rattle.lookup.specs.declared.Hit.{Hit}
-use Rattle.lookup.specs.Refusals.{firstRefusal}
+use Rattle.refusals.specs.Refusals.{firstRefusal}
 use Rattle.lookup.specs.Turns.{lookupIn, refusedBy, hitBy, hitAfter, hitOf}
 use Rattle.lookup.proofs.Scan.{Found, found, fine, gathered-first, room-from}
 

@@ -14,20 +14,20 @@ use Rattle.chip.proofs.Image.{geometry-fits, region-length}
 use Rattle.probe.specs.Probe.{allowedKey, probes}
 use Rattle.probe.proofs.Theorems.{members}
 use Rattle.format.specs.declared.Record.{Record}
-use Rattle.region.specs.declared.Fault.{Fault}
+use Rattle.format.specs.declared.Fault.{Fault}
 use Rattle.region.specs.declared.Stop.{Stop}
 use Rattle.region.specs.declared.Want.{Want}
 use Rattle.region.specs.declared.Event.{Event}
 use Rattle.region.specs.Walk.{records, ending, eventOf, eventIn}
 use Rattle.region.proofs.Steps.{placeOf}
 use Rattle.region.proofs.Theorems.{stop-decides, stop-within, live-decides, records-within, records-short}
-use Rattle.lookup.specs.declared.refusals.Refusal.{Refusal}
-use Rattle.lookup.specs.declared.refusals.Check.{Check}
+use Rattle.refusals.specs.declared.Refusal.{Refusal}
+use Rattle.refusals.specs.declared.Check.{Check}
 use Rattle.lookup.specs.declared.Need.{Need}
 use Rattle.lookup.specs.declared.Room.{Room}
 use Rattle.lookup.specs.declared.Seen.{Seen}
 use Rattle.lookup.specs.declared.Looked.{Looked}
-use Rattle.lookup.specs.Refusals.{firstRefusal}
+use Rattle.refusals.specs.Refusals.{firstRefusal}
 use Rattle.lookup.specs.Gather.{unseen, withRoom, orRoom, roomAt, noted}
 use Rattle.lookup.specs.Turns.{turn, close, onTurn, lookFrom, lookupIn}
 use Rattle.lookup.specs.Words.{roomOn, firstRoom}

@@ -1,4 +1,3 @@
-pub mod Refusals
 pub mod Gather
 pub mod Turns
 pub mod Words

@@ -8,14 +8,14 @@ use Rattle.probe.specs.Probe.{probes}
 use Rattle.region.specs.declared.Want.{Want}
 use Rattle.region.specs.declared.Event.{Event}
 use Rattle.region.specs.Walk.{eventIn}
-use Rattle.lookup.specs.declared.refusals.Refusal.{Refusal}
-use Rattle.lookup.specs.declared.refusals.Check.{Check}
+use Rattle.refusals.specs.declared.Refusal.{Refusal}
+use Rattle.refusals.specs.declared.Check.{Check}
 use Rattle.lookup.specs.declared.Need.{Need}
 use Rattle.lookup.specs.declared.Seen.{Seen}
 use Rattle.lookup.specs.declared.Looked.{Looked}
 use Rattle.lookup.specs.declared.Hit.{Hit}
 use Rattle.lookup.specs.declared.Turn.{Turn}
-use Rattle.lookup.specs.Refusals.{refusalOf, firstRefusal}
+use Rattle.refusals.specs.Refusals.{refusalOf, firstRefusal}
 use Rattle.lookup.specs.Gather.{unseen, noted}
 
 -- "the first live record of the key or bad place answers"; where a region comes to its end, the lookup goes on.

@@ -1,20 +1,16 @@
 // Where a key is: the regions of an image in the key's probe order, up to the one that decides.
 mod gather;
-mod refusals;
 mod turns;
 
-pub use refusals::Check;
-pub use refusals::Refusal;
-pub use refusals::first_refusal;
-pub use refusals::refusal_under;
 pub use turns::find_key;
 pub use turns::look_up;
 pub use turns::take_turn;
 ghost use mathlib.Core.Path.{_≡_};
 ghost use Rattle.lookup.specs.Gather.{unseen, withRoom};
 ghost use Rattle.lookup.specs.Turns.{refusedBy, hitBy, close};
+use format::Fault;
 use format::Record;
-use region::Fault;
+use refusals::Refusal;
 
 // What a lookup is for: append needs room for a record of so many bytes, nothing else needs any.
 pub enum Need {

@@ -5,13 +5,13 @@ ghost use lib.ListN.{length};
 ghost use Rattle.chip.specs.Geometry.{Fits};
 ghost use Rattle.probe.specs.Probe.{probes};
 ghost use Rattle.lookup.specs.Turns.{turnOf, lookupIn, hitOf};
-use crate::Check;
 use crate::Hit;
 use crate::Looked;
 use crate::Need;
 use crate::Seen;
 use crate::Turn;
 use crate::gather::note;
+use refusals::Check;
 use region::Event;
 use region::Want;
 
@@ -61,7 +61,7 @@ pub fn look_up(image: &[u8], s: usize, n: usize, key: u64, need: Need) -> Looked
 pub fn find_key(image: &[u8], s: usize, n: usize, key: u64) -> Hit
     ensures { λ r. ⌜ r ≡ hitOf (now (image .entry)) s n key ⌝ }
 {
-    let check = crate::first_refusal(image, s, n, key, 0);
+    let check = refusals::first_refusal(image, s, n, key, 0);
     if let Check::Refused(refusal) = check {
         return Hit::Refused(refusal);
     }

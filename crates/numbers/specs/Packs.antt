@@ -6,7 +6,7 @@ use Rattle.format.specs.declared.Record.{Record}
 use Rattle.format.specs.declared.Removal.{Removal}
 use Rattle.lookup.specs.declared.Room.{Room}
 use Rattle.lookup.specs.declared.Seen.{Seen}
-use Rattle.lookup.specs.Refusals.{number}
+use Rattle.refusals.specs.Refusals.{number}
 use Rattle.plans.specs.declared.Answer.{Answer}
 use Rattle.plans.specs.declared.Answer.the-variants.{Complete, Written, Freed, Refused}
 use Rattle.plans.specs.declared.Aim.{Aim}

@@ -14,18 +14,18 @@ use Rattle.chip.specs.Geometry.{regionOf}
 use Rattle.probe.specs.Probe.{probes}
 use Rattle.format.specs.declared.Record.{Record}
 use Rattle.format.specs.declared.Removal.{Removal}
-use Rattle.region.specs.declared.Fault.{Fault}
-use Rattle.region.specs.declared.Fault.the-variants.{UnsupportedVersion, CorruptData}
+use Rattle.format.specs.declared.Fault.{Fault}
+use Rattle.format.specs.declared.Fault.the-variants.{UnsupportedVersion, CorruptData}
 use Rattle.format.specs.Layout.{recordLength, checkSumFits}
 use Rattle.region.specs.Walk.{bytesIn, valueLength}
-use Rattle.lookup.specs.declared.refusals.Refusal.{Refusal}
-use Rattle.lookup.specs.declared.refusals.Check.{Check}
+use Rattle.refusals.specs.declared.Refusal.{Refusal}
+use Rattle.refusals.specs.declared.Check.{Check}
 use Rattle.lookup.specs.declared.Need.{Need}
 use Rattle.lookup.specs.declared.Room.{Room}
 use Rattle.lookup.specs.declared.Seen.{Seen}
 use Rattle.lookup.specs.declared.Looked.{Looked}
 use Rattle.lookup.specs.declared.Hit.{Hit}
-use Rattle.lookup.specs.Refusals.{number, refusalOf}
+use Rattle.refusals.specs.Refusals.{number, refusalOf}
 use Rattle.lookup.specs.Turns.{hitBy, hitOf}
 use Rattle.lookup.specs.Words.{firstRoom}
 use Rattle.lookup.proofs.Scan.{room-from}

@@ -10,7 +10,7 @@ use lib.ListN.{length}
 use Rattle.chip.specs.Geometry.{regionOf}
 use Rattle.format.specs.Layout.{checkSumFits}
 use Rattle.region.specs.Walk.{bytesIn, valueLength}
-use Rattle.lookup.specs.declared.refusals.Refusal.{Refusal}
+use Rattle.refusals.specs.declared.Refusal.{Refusal}
 use Rattle.lookup.specs.declared.Hit.{Hit}
 use Rattle.lookup.specs.Turns.{hitOf}
 use Rattle.plans.specs.declared.Answer.the-variants.{Complete, Refused}

@@ -14,16 +14,16 @@ use Rattle.chip.proofs.Image.{fits-geometry}
 use Rattle.probe.specs.Probe.{home, probes}
 use Rattle.format.specs.declared.Record.{Record}
 use Rattle.format.specs.declared.Removal.{Removal}
-use Rattle.region.specs.declared.Fault.the-variants.{UnsupportedVersion, CorruptData}
+use Rattle.format.specs.declared.Fault.the-variants.{UnsupportedVersion, CorruptData}
 use Rattle.format.specs.Layout.{recordLength, recordBytes, killPlace, killBytes, checkSumFits}
 use Rattle.region.specs.Walk.{bytesIn, valueLength}
-use Rattle.lookup.specs.declared.refusals.Refusal.{Refusal}
+use Rattle.refusals.specs.declared.Refusal.{Refusal}
 use Rattle.lookup.specs.declared.Need.{Need}
 use Rattle.lookup.specs.declared.Room.{Room}
 use Rattle.lookup.specs.declared.Seen.{Seen}
 use Rattle.lookup.specs.declared.Looked.{Looked}
 use Rattle.lookup.specs.declared.Hit.{Hit}
-use Rattle.lookup.specs.Refusals.{firstRefusal}
+use Rattle.refusals.specs.Refusals.{firstRefusal}
 use Rattle.lookup.specs.Turns.{lookupIn, hitBy, hitAfter, hitOf}
 use Rattle.lookup.specs.Words.{firstRoom}
 use Rattle.lookup.proofs.Scan.{gathered-first}

@@ -13,7 +13,7 @@ use Rattle.chip.specs.Chip.{erased}
 use Rattle.chip.specs.Geometry.{Fits, geometry, regionOf, numbers}
 use Rattle.chip.proofs.Image.{fits-geometry}
 use Rattle.probe.proofs.Theorems.{Distinct, none, one}
-use Rattle.region.specs.declared.Fault.{Fault}
+use Rattle.format.specs.declared.Fault.{Fault}
 use Rattle.plans.specs.declared.Answer.{Answer}
 use Rattle.plans.specs.declared.Answer.the-variants.{Freed}
 use Rattle.planning.specs.declared.Verdict.{Verdict}

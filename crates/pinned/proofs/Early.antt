@@ -14,9 +14,9 @@ use Rattle.chip.specs.Geometry.{Fits, geometry, numbers}
 use Rattle.chip.proofs.Image.{geometry-fits, fits-geometry}
 use Rattle.probe.specs.Probe.{allowedKey}
 use Rattle.format.specs.Layout.{edition, largestValue}
-use Rattle.lookup.specs.declared.refusals.Refusal.{Refusal}
-use Rattle.lookup.specs.declared.refusals.Check.{Check}
-use Rattle.lookup.specs.Refusals.{firstRefusal}
+use Rattle.refusals.specs.declared.Refusal.{Refusal}
+use Rattle.refusals.specs.declared.Check.{Check}
+use Rattle.refusals.specs.Refusals.{firstRefusal}
 use Rattle.lookup.specs.Turns.{hitAfter, hitOf}
 use Rattle.plans.specs.declared.Answer.the-variants.{Refused}
 use Rattle.plans.specs.Answers.{startsAnew}

@@ -4,7 +4,7 @@ use Prim.Native.Nat.{ℕ, _≤_}
 use native.Mathlib.Omega.{arith}
 use mathlib.Core.Path.{_≡_, refl}
 use mathlib.Core.List.{List}
-use Rattle.region.specs.declared.Fault.{Fault}
+use Rattle.format.specs.declared.Fault.{Fault}
 use Rattle.lookup.specs.declared.Need.{Need}
 use Rattle.store.specs.Call.{Call, get, initialise}
 use Rattle.pinned.specs.When.{Reads, Looks, get-looks, remove-looks, append-looks, MeetsBad, in-lookup, in-collect, When}

@@ -13,7 +13,7 @@ use borrow.Author.Tests.{le-leb, leb-true, leb-false}
 use Rattle.chip.specs.Chip.{isBlank}
 use Rattle.chip.specs.Geometry.{regionOf}
 use Rattle.format.specs.declared.Record.{Record}
-use Rattle.region.specs.declared.Fault.{Fault}
+use Rattle.format.specs.declared.Fault.{Fault}
 use Rattle.region.specs.declared.Stop.{Stop}
 use Rattle.region.specs.declared.Want.{Want}
 use Rattle.region.specs.declared.Event.{Event}

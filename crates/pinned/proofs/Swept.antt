@@ -17,13 +17,13 @@ use Rattle.chip.specs.Geometry.{Fits, regionOf, eraseRegion, numbers}
 use Rattle.chip.proofs.Lists.{Every}
 use Rattle.chip.proofs.Image.{region-erased-other, region-erased-same, fits-erased}
 use Rattle.format.specs.declared.Record.{Record}
-use Rattle.region.specs.declared.Fault.{Fault}
+use Rattle.format.specs.declared.Fault.{Fault}
 use Rattle.region.specs.declared.Stop.{Stop}
 use Rattle.region.specs.declared.Want.{Want}
 use Rattle.region.specs.declared.Event.{Event}
 use Rattle.region.specs.Walk.{records, eventIn}
 use Rattle.region.proofs.Theorems.{live-decides, stop-decides}
-use Rattle.lookup.specs.Refusals.{refusalOf}
+use Rattle.refusals.specs.Refusals.{refusalOf}
 use Rattle.plans.specs.declared.Answer.{Answer}
 use Rattle.plans.specs.declared.Answer.the-variants.{Freed, Refused}
 use Rattle.planning.specs.declared.Verdict.{Verdict}

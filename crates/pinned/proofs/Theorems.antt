@@ -14,18 +14,18 @@ use Rattle.chip.proofs.Image.{region-length}
 use Rattle.probe.specs.Probe.{home, probes}
 use Rattle.probe.proofs.Theorems.{members, Distinct}
 use Rattle.format.specs.declared.Record.{Record}
-use Rattle.region.specs.declared.Fault.{Fault}
+use Rattle.format.specs.declared.Fault.{Fault}
 use Rattle.format.specs.declared.Removal.{Removal}
 use Rattle.region.specs.declared.Event.{Event}
 use Rattle.region.specs.declared.Want.{Want}
 use Rattle.format.specs.Layout.{recordBytes, checkSumFits}
 use Rattle.region.specs.Walk.{eventIn, bytesIn, valueLength, valueIn}
-use Rattle.lookup.specs.declared.refusals.Refusal.{Refusal}
+use Rattle.refusals.specs.declared.Refusal.{Refusal}
 use Rattle.lookup.specs.declared.Need.{Need}
 use Rattle.lookup.specs.declared.Room.{Room}
 use Rattle.lookup.specs.declared.Looked.{Looked}
 use Rattle.lookup.specs.declared.Seen.{Seen}
-use Rattle.lookup.specs.Refusals.{refusalOf}
+use Rattle.refusals.specs.Refusals.{refusalOf}
 use Rattle.lookup.specs.Turns.{lookupIn}
 use Rattle.lookup.specs.Words.{firstRoom, Passed}
 use Rattle.lookup.proofs.Scan.{gathered-first}

@@ -10,8 +10,8 @@ use Rattle.chip.specs.Chip.{isBlank}
 use Rattle.chip.specs.Geometry.{Fits, regionOf}
 use Rattle.probe.specs.Probe.{probes}
 use Rattle.format.specs.declared.Record.{Record}
-use Rattle.region.specs.declared.Fault.{Fault}
-use Rattle.region.specs.declared.Fault.the-variants.{UnsupportedVersion, CorruptData}
+use Rattle.format.specs.declared.Fault.{Fault}
+use Rattle.format.specs.declared.Fault.the-variants.{UnsupportedVersion, CorruptData}
 use Rattle.region.specs.declared.Want.{Want}
 use Rattle.region.specs.declared.Event.{Event}
 use Rattle.format.specs.declared.Removal.{Removal}

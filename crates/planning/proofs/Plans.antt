@@ -11,7 +11,7 @@ use borrow.Author.Tests.{lt-ltb, le-leb, eqb-false}
 use types.Run.{OneOf}
 use denote.Enum.Declared.{tagOf}
 use Rattle.format.specs.declared.Record.{Record}
-use Rattle.region.specs.declared.Fault.{Fault}
+use Rattle.format.specs.declared.Fault.{Fault}
 use Rattle.lookup.specs.declared.Room.{Room}
 use Rattle.lookup.specs.declared.Seen.{Seen}
 use Rattle.lookup.specs.declared.Looked.{Looked}

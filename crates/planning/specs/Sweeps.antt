@@ -8,7 +8,7 @@ use Rattle.format.specs.declared.Record.{Record}
 use Rattle.region.specs.declared.Want.{Want}
 use Rattle.region.specs.declared.Event.{Event}
 use Rattle.region.specs.Walk.{records, eventIn}
-use Rattle.lookup.specs.Refusals.{refusalOf}
+use Rattle.refusals.specs.Refusals.{refusalOf}
 use Rattle.plans.specs.declared.Answer.{Answer}
 use Rattle.plans.specs.declared.Edit.{Edit}
 use Rattle.plans.specs.declared.Edits.{Edits}

@@ -2,13 +2,13 @@
 mod planning;
 mod sweeps;
 
+use format::Fault;
 pub use planning::append_plan;
 pub use planning::given_plan;
 pub use planning::need_of;
 pub use planning::plan_for;
 pub use planning::refuse;
 pub use planning::remove_plan;
-use region::Fault;
 pub use sweeps::judge;
 pub use sweeps::sweep_plan;
 

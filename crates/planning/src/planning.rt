@@ -8,7 +8,6 @@ use format::Removal;
 use lookup::Hit;
 use lookup::Looked;
 use lookup::Need;
-use lookup::Refusal;
 use lookup::Room;
 use lookup::Seen;
 use plans::Aim;
@@ -17,6 +16,7 @@ use plans::Edit;
 use plans::Edits;
 use plans::Plan;
 use plans::Then;
+use refusals::Refusal;
 
 // What an aim's lookup is for, where a value of so many bytes is lent.
 pub fn need_of(aim: Aim, len: usize) -> Need

@@ -5,12 +5,12 @@ ghost use lib.ListN.{length};
 ghost use Rattle.chip.specs.Geometry.{Shape};
 ghost use Rattle.planning.specs.Sweeps.{verdict, sweptTo, sweepPlan};
 use crate::Verdict;
-use lookup::Refusal;
 use plans::Answer;
 use plans::Edit;
 use plans::Edits;
 use plans::Plan;
 use plans::Then;
+use refusals::Refusal;
 use region::Event;
 use region::Want;
 

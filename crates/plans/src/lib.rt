@@ -11,8 +11,8 @@ ghost use mathlib.Core.Path.{_≡_};
 ghost use Rattle.plans.specs.Writes.{valueLent, bufferLent};
 use format::Record;
 use format::Removal;
-use lookup::Refusal;
 use lookup::Seen;
+use refusals::Refusal;
 
 // What a call answers.
 pub enum Answer {

@@ -6,7 +6,7 @@ use lib.Dec.{ltb, eqb}
 use lib.ListN.{length, getD, take, drop}
 use Rattle.format.specs.Layout.{edition, headerLength, leastLength, recordLength, bigEndianAt, live}
 use Rattle.format.specs.declared.Record.{Record}
-use Rattle.region.specs.declared.Fault.the-variants.{UnsupportedVersion, CorruptData}
+use Rattle.format.specs.declared.Fault.the-variants.{UnsupportedVersion, CorruptData}
 use Rattle.region.specs.declared.Stop.{Stop}
 use Rattle.region.specs.declared.Stop.the-variants.{End, Bad}
 use Rattle.region.specs.declared.Met.{Met}

@@ -5,13 +5,8 @@ pub use walk::find;
 pub use walk::look;
 ghost use mathlib.Core.Path.{_≡_};
 ghost use Rattle.region.specs.Walk.{isWanted, eventOf};
+use format::Fault;
 use format::Record;
-
-// Why a place is bad: steps 3 and 4 of a walk.
-pub enum Fault {
-    UnsupportedVersion,
-    CorruptData,
-}
 
 // How and where the records of a region stop: the end, or a bad place.
 pub enum Stop {

@@ -4,10 +4,10 @@ ghost use Prim.Native.Nat.{_+_, _≤_, _<_};
 ghost use lib.ListN.{length};
 ghost use Rattle.region.specs.Walk.{lengthAt, keyAt, metAt, eventIn};
 use crate::Event;
-use crate::Fault;
 use crate::Met;
 use crate::Stop;
 use crate::Want;
+use format::Fault;
 use format::Record;
 
 // The 12 bits of length of the header at a place.

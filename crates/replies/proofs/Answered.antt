@@ -5,8 +5,8 @@ use mathlib.Core.Path.{_≡_, refl}
 use mathlib.Core.Bool.{cond}
 use lib.Dec.{eqb}
 use lib.ListN.{getD}
-use Rattle.lookup.specs.declared.refusals.Refusal.{Refusal}
-use Rattle.lookup.specs.Refusals.{number, valueOf}
+use Rattle.refusals.specs.declared.Refusal.{Refusal}
+use Rattle.refusals.specs.Refusals.{number, valueOf}
 use Rattle.plans.specs.declared.Answer.{Answer}
 use Rattle.plans.specs.declared.Answer.the-variants.{Complete, Written, Freed, Refused}
 use Rattle.running.specs.declared.Request.{Request}

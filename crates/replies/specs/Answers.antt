@@ -1,7 +1,7 @@
 -- Answers and requests in numbers, as C and Rust see them.
 use Prim.Native.Nat.{ℕ}
 use lib.ListN.{getD}
-use Rattle.lookup.specs.Refusals.{number, valueOf}
+use Rattle.refusals.specs.Refusals.{number, valueOf}
 use Rattle.plans.specs.declared.Answer.{Answer}
 use Rattle.plans.specs.declared.Answer.the-variants.{Complete, Written, Freed, Refused}
 use Rattle.running.specs.declared.Request.{Request}

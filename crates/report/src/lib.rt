@@ -1,6 +1,6 @@
 // What the programs write and compare: answers with their names and numbers, and bytes.
-use lookup::Refusal;
 use plans::Answer;
+use refusals::Refusal;
 
 pub fn line(what: &[u8]) {
     text(what);

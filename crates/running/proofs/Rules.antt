@@ -12,8 +12,8 @@ use Rattle.chip.specs.Geometry.{Shape, sized}
 use Rattle.chip.proofs.Image.{both, sized-shape, shape-sized}
 use Rattle.probe.specs.Probe.{allowedKey}
 use Rattle.probe.proofs.Theorems.{in-range}
-use Rattle.lookup.specs.declared.refusals.Refusal.{Refusal}
-use Rattle.lookup.specs.declared.refusals.Check.{Check}
+use Rattle.refusals.specs.declared.Refusal.{Refusal}
+use Rattle.refusals.specs.declared.Check.{Check}
 use Rattle.plans.specs.declared.Aim.{Aim}
 use Rattle.plans.specs.declared.Lent.{Lent}
 use Rattle.plans.specs.declared.Edit.{Edit}

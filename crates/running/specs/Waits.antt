@@ -3,7 +3,7 @@ use Prim.Native.Nat.{ℕ, _+_, _*_}
 use mathlib.Core.Bool.{false, cond}
 use lib.ListN.{getD}
 use Rattle.probe.specs.Probe.{probes}
-use Rattle.lookup.specs.declared.refusals.Refusal.{Refusal}
+use Rattle.refusals.specs.declared.Refusal.{Refusal}
 use Rattle.plans.specs.declared.Answer.the-variants.{Refused}
 use Rattle.plans.specs.declared.Edit.{Edit}
 use Rattle.plans.specs.declared.First.{First}

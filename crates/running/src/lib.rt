@@ -16,11 +16,11 @@ pub use waits::wait_of;
 ghost use mathlib.Core.Path.{_≡_};
 ghost use Rattle.running.specs.Starts.{started};
 ghost use Rattle.running.specs.Waits.{withPlan};
-use lookup::Refusal;
 use plans::Answer;
 use plans::Edit;
 use plans::Lent;
 use plans::Plan;
+use refusals::Refusal;
 
 // A running operation on a chip of n regions of s bytes: what is lent to it, and what is left of its plan. A fresh one has asked for nothing yet.
 pub struct Op {

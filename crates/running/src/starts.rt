@@ -5,19 +5,19 @@ ghost use Rattle.running.specs.Starts.{startRefusal, startedOr, lookStar
 use crate::Op;
 use crate::Start;
 use format::Removal;
-use lookup::Check;
 use lookup::Seen;
 use plans::Aim;
 use plans::Edits;
 use plans::Lent;
 use plans::Plan;
 use plans::Then;
+use refusals::Check;
 
 // What a start refuses.
 fn start_refusal(s: usize, n: usize, key: u64, len: usize) -> Check
     ensures { λ r. ⌜ r ≡ startRefusal s n key len ⌝ }
 {
-    lookup::refusal_under(chip::is_sized(s, n), key, len)
+    refusals::refusal_under(chip::is_sized(s, n), key, len)
 }
 
 fn started_or(op: Op, check: Check) -> Start

@@ -13,11 +13,11 @@ use crate::Request;
 use crate::Wait;
 use format::Record;
 use format::Removal;
-use lookup::Refusal;
 use plans::Answer;
 use plans::Edit;
 use plans::First;
 use plans::Then;
+use refusals::Refusal;
 
 pub fn wait_of(op: Op) -> Wait
     requires { ⌜ Ruled op ⌝ }

@@ -14,13 +14,13 @@ use Rattle.probe.specs.Probe.{probes}
 use Rattle.probe.proofs.Theorems.{probes-length}
 use Rattle.format.specs.declared.Removal.{Removal}
 use Rattle.format.specs.Layout.{recordLength}
-use Rattle.lookup.specs.declared.refusals.Check.{Check}
+use Rattle.refusals.specs.declared.Check.{Check}
 use Rattle.lookup.specs.declared.Need.{Need}
 use Rattle.lookup.specs.declared.Room.{Room}
 use Rattle.lookup.specs.declared.Seen.{Seen}
 use Rattle.lookup.specs.declared.Looked.{Looked}
 use Rattle.lookup.specs.declared.Turn.{Turn}
-use Rattle.lookup.specs.Refusals.{refusalUnder, firstRefusal}
+use Rattle.refusals.specs.Refusals.{refusalUnder, firstRefusal}
 use Rattle.lookup.specs.Turns.{turnOf, onTurn, lookupIn, readFrom, regionsRead, hitBy}
 use Rattle.lookup.specs.Gather.{unseen}
 use Rattle.plans.specs.declared.Edit.{Edit}

@@ -14,14 +14,14 @@ use Rattle.chip.specs.Geometry.{sized, geometry, Fits, regionOf, eraseRegion, n
 use Rattle.chip.proofs.Image.{fits-geometry, fits-erased, fits-blank, erase-start, erase-next, erase-end}
 use Rattle.probe.specs.Probe.{probes}
 use Rattle.format.specs.declared.Removal.{Removal}
-use Rattle.region.specs.declared.Fault.{Fault}
-use Rattle.lookup.specs.declared.refusals.Refusal.{Refusal}
-use Rattle.lookup.specs.declared.refusals.Check.{Check}
+use Rattle.format.specs.declared.Fault.{Fault}
+use Rattle.refusals.specs.declared.Refusal.{Refusal}
+use Rattle.refusals.specs.declared.Check.{Check}
 use Rattle.lookup.specs.declared.Need.{Need}
 use Rattle.lookup.specs.declared.Room.{Room}
 use Rattle.lookup.specs.declared.Looked.{Looked}
 use Rattle.lookup.specs.declared.Hit.{Hit}
-use Rattle.lookup.specs.Refusals.{refusalOf, refusalUnder, firstRefusal}
+use Rattle.refusals.specs.Refusals.{refusalOf, refusalUnder, firstRefusal}
 use Rattle.lookup.specs.Turns.{lookupIn, hitBy, hitAfter, hitOf}
 use Rattle.plans.specs.declared.Answer.{Answer}
 use Rattle.plans.specs.declared.Aim.{Aim}

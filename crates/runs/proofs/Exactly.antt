@@ -10,15 +10,15 @@ use lib.ListN.{length, getD}
 use borrow.Author.Tests.{eqb-true}
 use Rattle.probe.specs.Probe.{probes}
 use Rattle.format.specs.declared.Record.{Record}
-use Rattle.region.specs.declared.Fault.{Fault}
-use Rattle.region.specs.declared.Fault.the-variants.{UnsupportedVersion, CorruptData}
+use Rattle.format.specs.declared.Fault.{Fault}
+use Rattle.format.specs.declared.Fault.the-variants.{UnsupportedVersion, CorruptData}
 use Rattle.format.specs.Layout.{checkSumFits}
 use Rattle.region.specs.Walk.{bytesIn, valueLength}
-use Rattle.lookup.specs.declared.refusals.Refusal.{Refusal}
+use Rattle.refusals.specs.declared.Refusal.{Refusal}
 use Rattle.lookup.specs.declared.Room.{Room}
 use Rattle.lookup.specs.declared.Looked.{Looked}
 use Rattle.lookup.specs.declared.Turn.{Turn}
-use Rattle.lookup.specs.Refusals.{number, refusalOf}
+use Rattle.refusals.specs.Refusals.{number, refusalOf}
 use Rattle.lookup.specs.Turns.{close, turnOf, refusedBy}
 use Rattle.plans.specs.declared.Answer.{Answer}
 use Rattle.plans.specs.declared.Answer.the-variants.{Complete, Freed, Refused}

@@ -15,7 +15,7 @@ use Rattle.chip.specs.Geometry.{regionOf, eraseRegion, numbers}
 use Rattle.probe.specs.Probe.{probes}
 use Rattle.probe.proofs.Theorems.{probes-length}
 use Rattle.format.specs.declared.Record.{Record}
-use Rattle.region.specs.declared.Fault.{Fault}
+use Rattle.format.specs.declared.Fault.{Fault}
 use Rattle.region.specs.declared.Want.{Want}
 use Rattle.region.specs.declared.Event.{Event}
 use Rattle.region.specs.Walk.{eventIn}
@@ -23,7 +23,7 @@ use Rattle.lookup.specs.declared.Need.{Need}
 use Rattle.lookup.specs.declared.Seen.{Seen}
 use Rattle.lookup.specs.declared.Looked.{Looked}
 use Rattle.lookup.specs.declared.Turn.{Turn}
-use Rattle.lookup.specs.Refusals.{refusalOf}
+use Rattle.refusals.specs.Refusals.{refusalOf}
 use Rattle.lookup.specs.Gather.{unseen}
 use Rattle.lookup.specs.Turns.{turn, close, onTurn, lookFrom, lookupIn, readFrom}
 use Rattle.plans.specs.declared.Answer.the-variants.{Freed}

@@ -11,9 +11,9 @@ use Rattle.chip.specs.Chip.{erased}
 use Rattle.chip.specs.Geometry.{sized, geometry, numbers}
 use Rattle.probe.specs.Probe.{allowedKey}
 use Rattle.format.specs.Layout.{edition, largestValue}
-use Rattle.lookup.specs.declared.refusals.Refusal.{Refusal}
-use Rattle.lookup.specs.declared.refusals.Check.{Check}
-use Rattle.lookup.specs.Refusals.{refusalUnder, firstRefusal}
+use Rattle.refusals.specs.declared.Refusal.{Refusal}
+use Rattle.refusals.specs.declared.Check.{Check}
+use Rattle.refusals.specs.Refusals.{refusalUnder, firstRefusal}
 use Rattle.lookup.specs.Turns.{hitAfter, hitOf}
 use Rattle.plans.specs.declared.Answer.{Answer}
 use Rattle.plans.specs.declared.Answer.the-variants.{Refused}

@@ -13,7 +13,7 @@ use lib.ListN.{length, take, drop, replicate}
 use Rattle.chip.specs.Chip.{Bytes}
 use Rattle.chip.specs.Geometry.{Fits}
 use Rattle.format.specs.declared.Removal.{Removal}
-use Rattle.lookup.specs.declared.refusals.Refusal.{Refusal}
+use Rattle.refusals.specs.declared.Refusal.{Refusal}
 use Rattle.plans.specs.declared.Answer.the-variants.{Refused, Complete, Written}
 use Rattle.planning.specs.Planning.{refuses}
 use Rattle.store.specs.Read.{Got}

@@ -8,8 +8,8 @@ use lib.ListN.{length}
 use Rattle.chip.specs.Chip.{erased}
 use Rattle.chip.specs.Geometry.{geometry, regionOf, eraseRegion, numbers}
 use Rattle.probe.specs.Probe.{probes}
-use Rattle.lookup.specs.declared.refusals.Check.{Check}
-use Rattle.lookup.specs.Refusals.{firstRefusal}
+use Rattle.refusals.specs.declared.Check.{Check}
+use Rattle.refusals.specs.Refusals.{firstRefusal}
 use Rattle.lookup.specs.Turns.{lookupIn, regionsRead}
 use Rattle.plans.specs.declared.Aim.{Aim}
 use Rattle.plans.specs.declared.Plan.{Plan}

@@ -6,7 +6,7 @@ use lib.Dec.{ltb}
 use lib.ListN.{getD}
 use Rattle.probe.specs.Probe.{probes}
 use Rattle.format.specs.declared.Record.{Record}
-use Rattle.lookup.specs.declared.refusals.Refusal.{Refusal}
+use Rattle.refusals.specs.declared.Refusal.{Refusal}
 use Rattle.lookup.specs.declared.Seen.{Seen}
 use Rattle.lookup.specs.declared.Turn.{Turn}
 use Rattle.lookup.specs.Turns.{turnOf, close}

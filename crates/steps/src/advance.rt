@@ -7,7 +7,6 @@ ghost use Rattle.plans.specs.Fits.{thenFits};
 ghost use Rattle.running.specs.Rule.{Ruled};
 ghost use Rattle.steps.specs.Advance.{closes, turnedTo, seekNext, advance, given, copied, filled, nextPlan, bufferOn};
 use format::Record;
-use lookup::Refusal;
 use lookup::Seen;
 use lookup::Turn;
 use plans::Aim;
@@ -16,6 +15,7 @@ use plans::First;
 use plans::Lent;
 use plans::Plan;
 use plans::Then;
+use refusals::Refusal;
 use running::Op;
 use running::Reply;
 

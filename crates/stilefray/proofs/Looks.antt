@@ -2,7 +2,7 @@
 -- Assumes nothing.
 use Prim.Native.Nat.{ℕ}
 use mathlib.Core.Path.{refl}
-use Rattle.lookup.specs.declared.refusals.Check.{Check}
+use Rattle.refusals.specs.declared.Check.{Check}
 use Rattle.plans.specs.declared.Aim.{Aim}
 use Rattle.plans.specs.declared.Lent.{Lent}
 use Rattle.plans.specs.Writes.{valueLent}

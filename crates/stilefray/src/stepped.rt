@@ -4,12 +4,12 @@ ghost use Rattle.format.specs.declared.Removal.{Removal};
 ghost use Rattle.running.specs.Starts.{getStarted, appendStarted, removeStarted, collectStarted, initialiseStarted};
 ghost use Rattle.numbers.specs.Packs.{startNumbers};
 ghost use Rattle.stilefray.specs.Stepped.{badCall, stepNumbers, stepRegion, stepBuffer};
-use lookup::Refusal;
 use numbers::COperation;
 use numbers::CStart;
 use numbers::CStepped;
 use numbers::KnownReply;
 use plans::Answer;
+use refusals::Refusal;
 use running::Request;
 
 #[no_mangle]

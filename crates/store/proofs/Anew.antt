@@ -8,9 +8,9 @@ use mathlib.Core.List.{List}
 use lib.Dec.{ltb}
 use Rattle.chip.specs.Geometry.{Fits, geometry}
 use Rattle.probe.specs.Probe.{allowedKey}
-use Rattle.lookup.specs.declared.refusals.Refusal.{Refusal}
-use Rattle.lookup.specs.declared.refusals.Check.{Check}
-use Rattle.lookup.specs.Refusals.{firstRefusal}
+use Rattle.refusals.specs.declared.Refusal.{Refusal}
+use Rattle.refusals.specs.declared.Check.{Check}
+use Rattle.refusals.specs.Refusals.{firstRefusal}
 use Rattle.lookup.specs.Turns.{hitAfter, hitOf}
 use Rattle.lookup.proofs.Scan.{fine}
 use Rattle.plans.specs.declared.Answer.the-variants.{Refused}

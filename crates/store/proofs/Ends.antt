@@ -16,13 +16,13 @@ use Rattle.format.specs.declared.Record.{Record}
 use Rattle.format.specs.declared.Removal.{Removal}
 use Rattle.format.specs.Layout.{recordLength, killPlace, killBytes}
 use Rattle.format.proofs.Killed.{kill-length}
-use Rattle.lookup.specs.declared.refusals.Refusal.{Refusal}
-use Rattle.lookup.specs.declared.refusals.Check.{Check}
+use Rattle.refusals.specs.declared.Refusal.{Refusal}
+use Rattle.refusals.specs.declared.Check.{Check}
 use Rattle.lookup.specs.declared.Need.{Need}
 use Rattle.lookup.specs.declared.Room.{Room}
 use Rattle.lookup.specs.declared.Looked.{Looked}
 use Rattle.lookup.specs.declared.Hit.{Hit}
-use Rattle.lookup.specs.Refusals.{firstRefusal}
+use Rattle.refusals.specs.Refusals.{firstRefusal}
 use Rattle.lookup.specs.Turns.{lookupIn, hitOf}
 use Rattle.lookup.proofs.Scan.{fine}
 use Rattle.lookup.proofs.Ends.{Placed, held, placed-at}

@@ -10,9 +10,9 @@ use mathlib.Core.List.{List}
 use lib.ListN.{length, take, drop}
 use Rattle.chip.specs.Geometry.{geometry, Fits, regionOf, eraseRegion, numbers}
 use Rattle.chip.proofs.Image.{geometry-fits, part-region, region-length, region-small, fits-erased}
-use Rattle.region.specs.declared.Fault.{Fault}
-use Rattle.lookup.specs.declared.refusals.Refusal.{Refusal}
-use Rattle.lookup.specs.Refusals.{refusalOf}
+use Rattle.format.specs.declared.Fault.{Fault}
+use Rattle.refusals.specs.declared.Refusal.{Refusal}
+use Rattle.refusals.specs.Refusals.{refusalOf}
 use Rattle.plans.specs.declared.Answer.{Answer}
 use Rattle.plans.specs.declared.Answer.the-variants.{Freed, Refused}
 use Rattle.planning.specs.declared.Verdict.{Verdict}

@@ -1,9 +1,9 @@
 // Collect: regions whose records are all dead are erased.
 ghost use mathlib.Core.Path.{_≡_};
 ghost use Rattle.store.specs.Collect.{collectOf};
-use lookup::Refusal;
 use planning::Verdict;
 use plans::Answer;
+use refusals::Refusal;
 
 pub fn garbage_collect(image: &mut [u8], s: usize, n: usize) -> Answer
     ensures { λ r. ⌜ (r ≡ collectOf (now (image .entry)) s n .answer) × (now (image .exit) ≡ collectOf (now (image .entry)) s n .image) ⌝ }

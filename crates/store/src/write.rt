@@ -10,16 +10,16 @@ ghost use Rattle.plans.specs.Fits.{editFits, editsFit};
 ghost use Rattle.store.specs.Write.{endOf, carried, appendOf, removeOf, initialiseOf};
 use format::Record;
 use format::Removal;
-use lookup::Check;
 use lookup::Hit;
 use lookup::Need;
-use lookup::Refusal;
 use plans::Answer;
 use plans::Edit;
 use plans::Edits;
 use plans::First;
 use plans::Plan;
 use plans::Then;
+use refusals::Check;
+use refusals::Refusal;
 
 // One edit of an image.
 fn make_edit(image: &mut [u8], s: usize, n: usize, edit: Edit, key: u64, value: &[u8])
@@ -83,7 +83,7 @@ fn carry_out(image: &mut [u8], s: usize, n: usize, plan: Plan, key: u64, value: 
 pub fn append_key(image: &mut [u8], s: usize, n: usize, key: u64, value: &[u8]) -> Answer
     ensures { λ r. ⌜ (r ≡ appendOf (now (image .entry)) s n key (now (value .entry)) .answer) × (now (image .exit) ≡ appendOf (now (image .entry)) s n key (now (value .entry)) .image) ⌝ }
 {
-    let check = lookup::first_refusal(&image[..], s, n, key, value.len());
+    let check = refusals::first_refusal(&image[..], s, n, key, value.len());
     if let Check::Refused(refusal) = check {
         return Answer::Refused(refusal);
     }

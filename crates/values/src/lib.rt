@@ -5,8 +5,8 @@ ghost use Prim.Native.Nat.{_+_, _≤_};
 ghost use lib.ListN.{length};
 ghost use Rattle.values.specs.Values.{readAnswer, readBuffer};
 use format::Record;
-use lookup::Refusal;
 use plans::Answer;
+use refusals::Refusal;
 
 // Get's answer by a record of a region, for a buffer of so many bytes.
 pub fn read_answer(region: &[u8], rec: Record, capacity: usize) -> Answer

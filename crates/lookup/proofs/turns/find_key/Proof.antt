@@ -2,8 +2,8 @@
 -- Assumes nothing.
 use mathlib.Core.Path.{_≡_, sym, _∙_, ap}
 use denote.Ref.{now}
-use Rattle.lookup.specs.declared.refusals.Check.{Check}
-use Rattle.lookup.specs.Refusals.{firstRefusal}
+use Rattle.refusals.specs.declared.Check.{Check}
+use Rattle.refusals.specs.Refusals.{firstRefusal}
 use Rattle.lookup.specs.Turns.{hitBy, hitOf}
 use Rattle.lookup.proofs.Scan.{fine}
 use borrow.Author.Needs.{needs}
@@ -12,7 +12,7 @@ use Rattle.lookup.proofs.turns.find_key.Tie as tie
 use Rattle.lookup.proofs.turns.find_key.Reads as reads
 use Rattle.lookup.proofs.turns.find_key.Lts as lts
 use Rattle.lookup.proofs.Looked.hit.Reads as hit-reads
-use Rattle.lookup.proofs.refusals.first_refusal.Reads as first-refusal-reads
+use Rattle.refusals.proofs.first_refusal.Reads as first-refusal-reads
 use Rattle.lookup.proofs.turns.look_up.Reads as look-up-reads
 
 -- nothing is refused before reading

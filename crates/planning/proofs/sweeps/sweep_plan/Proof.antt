@@ -3,7 +3,7 @@ use Rattle.planning.proofs.sweeps.sweep_plan.Statement.{statement}
 use Rattle.planning.proofs.sweeps.sweep_plan.Tie as tie
 use Rattle.planning.proofs.sweeps.sweep_plan.Reads as reads
 use Rattle.planning.proofs.sweeps.sweep_plan.Lts as lts
-use Rattle.lookup.proofs.refusals.Refusal.of.Reads as of-reads
+use Rattle.refusals.proofs.Refusal.of.Reads as of-reads
 use Rattle.planning.proofs.planning.refuse.Reads as refuse-reads
 use Rattle.planning.proofs.sweeps.swept_to.Reads as swept-to-reads
 

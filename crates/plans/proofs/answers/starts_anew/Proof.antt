@@ -3,7 +3,7 @@ use Rattle.plans.proofs.answers.starts_anew.Statement.{statement}
 use Rattle.plans.proofs.answers.starts_anew.Tie as tie
 use Rattle.plans.proofs.answers.starts_anew.Reads as reads
 use Rattle.plans.proofs.answers.starts_anew.Lts as lts
-use Rattle.lookup.proofs.refusals.Refusal.number.Reads as number-reads
+use Rattle.refusals.proofs.Refusal.number.Reads as number-reads
 use Rattle.plans.proofs.answers.number_starts_anew.Reads as number-starts-anew-reads
 
 -- src/answers.rt:11:32

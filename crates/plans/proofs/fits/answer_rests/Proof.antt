@@ -3,7 +3,7 @@ use Rattle.plans.proofs.fits.answer_rests.Statement.{statement}
 use Rattle.plans.proofs.fits.answer_rests.Tie as tie
 use Rattle.plans.proofs.fits.answer_rests.Reads as reads
 use Rattle.plans.proofs.fits.answer_rests.Lts as lts
-use Rattle.lookup.proofs.refusals.Refusal.number.Reads as number-reads
+use Rattle.refusals.proofs.Refusal.number.Reads as number-reads
 
 enum-told : tie.Need-enum-told
 enum-told c = search needs

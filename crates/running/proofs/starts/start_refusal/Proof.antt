@@ -2,13 +2,13 @@
 -- Assumes nothing.
 use mathlib.Core.Path.{_∙_, ap}
 use mathlib.Core.Bool.{Bool}
-use Rattle.lookup.specs.Refusals.{refusalUnder}
+use Rattle.refusals.specs.Refusals.{refusalUnder}
 use Rattle.running.specs.Starts.{startRefusal}
 use borrow.Author.Needs.{needs}
 use Rattle.running.proofs.starts.start_refusal.Statement.{statement}
 use Rattle.running.proofs.starts.start_refusal.Tie as tie
 use Rattle.chip.proofs.is_sized.Reads as is-sized-reads
-use Rattle.lookup.proofs.refusal_under.Reads as refusal-under-reads
+use Rattle.refusals.proofs.refusal_under.Reads as refusal-under-reads
 
 is-sized-requires : tie.Need-is-sized-requires
 is-sized-requires c κs = search needs

@@ -5,11 +5,11 @@ use mathlib.Core.List.{List, [], _∷_}
 use lib.Dec.{ltb}
 use Rattle.chip.specs.Geometry.{geometry}
 use Rattle.probe.specs.Probe.{allowedKey}
-use Rattle.region.specs.declared.Fault.{Fault}
-use Rattle.region.specs.declared.Fault.the-variants.{UnsupportedVersion, CorruptData}
+use Rattle.format.specs.declared.Fault.{Fault}
+use Rattle.format.specs.declared.Fault.the-variants.{UnsupportedVersion, CorruptData}
 use Rattle.format.specs.Layout.{edition, largestValue}
-use Rattle.lookup.specs.declared.refusals.Refusal.{Refusal}
-use Rattle.lookup.specs.declared.refusals.Check.{Check}
+use Rattle.refusals.specs.declared.Refusal.{Refusal}
+use Rattle.refusals.specs.declared.Check.{Check}
 
 -- The first column of the table "When the store says no".
 abbrev pub number : Refusal → ℕ

@@ -1,9 +1,9 @@
 // Why the store says no, and what is refused before anything is read.
 ghost use mathlib.Core.Path.{_≡_};
 ghost use lib.ListN.{getD};
-ghost use Rattle.lookup.specs.Refusals.{number, valueOf, refusalOf, refusalUnder, firstRefusal};
+ghost use Rattle.refusals.specs.Refusals.{number, valueOf, refusalOf, refusalUnder, firstRefusal};
+use format::Fault;
 use format::Record;
-use region::Fault;
 
 // In the order of their numbers, 1 to 12.
 pub enum Refusal {

@@ -1,11 +1,11 @@
--- `lookup::refusals::first_refusal` meets its contract: the refusals under the image's geometry.
+-- `refusals::first_refusal` meets its contract: the refusals under the image's geometry.
 -- Assumes nothing.
 use mathlib.Core.Path.{_∙_, ap}
 use mathlib.Core.Bool.{Bool}
-use Rattle.lookup.specs.Refusals.{refusalUnder, firstRefusal}
+use Rattle.refusals.specs.Refusals.{refusalUnder, firstRefusal}
 use borrow.Author.Needs.{needs}
-use Rattle.lookup.proofs.refusals.first_refusal.Statement.{statement}
-use Rattle.lookup.proofs.refusals.first_refusal.Tie as tie
+use Rattle.refusals.proofs.first_refusal.Statement.{statement}
+use Rattle.refusals.proofs.first_refusal.Tie as tie
 
 fits-requires : tie.Need-fits-requires
 fits-requires c κs = search needs

@@ -1,10 +1,10 @@
--- `lookup::refusals::refusal_under` meets its contract: each return is what its tests say.
+-- `refusals::refusal_under` meets its contract: each return is what its tests say.
 -- Assumes nothing.
 use mathlib.Core.Path.{sym, _∙_}
 use borrow.Author.Tests.{lt-ltb, le-ltb, not-true, not-false}
 use borrow.Author.Needs.{needs}
-use Rattle.lookup.proofs.refusals.refusal_under.Statement.{statement}
-use Rattle.lookup.proofs.refusals.refusal_under.Tie as tie
+use Rattle.refusals.proofs.refusal_under.Statement.{statement}
+use Rattle.refusals.proofs.refusal_under.Tie as tie
 
 returns : tie.Need-returns
 returns c = rw (not-true (c .before .args .shaped) (c .if1 .taken))
