@@ -7,7 +7,7 @@ ghost use lib.Seq.{sets};
 ghost use Rattle.format.specs.Layout.{recordBytes};
 ghost use Rattle.plans.specs.Writes.{valueLent, valueOf, laidIn};
 ghost use Rattle.plans.specs.Fits.{editFits};
-ghost use Rattle.running.specs.Rule.{Ruled};
+ghost use Rattle.running.specs.Ruled.{Ruled};
 ghost use Rattle.laying.specs.Lend.{laid, laidOn};
 use plans::Edit;
 use plans::First;

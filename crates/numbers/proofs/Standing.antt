@@ -18,7 +18,8 @@ use Rattle.running.specs.declared.Op.{Op}
 use Rattle.running.specs.declared.Reply.{Reply}
 use Rattle.running.specs.declared.Wait.{Wait}
 use Rattle.running.specs.Waits.{waitFirst, waitOf}
-use Rattle.running.specs.Rule.{freshFits, rule, replyFits, buffersFit, callFits}
+use Rattle.running.specs.Ruled.{freshFits}
+use Rattle.rule.specs.Rule.{rule, replyFits, buffersFit, callFits}
 use Rattle.numbers.specs.declared.packs.Slot.{Slot}
 use Rattle.numbers.specs.Packs.{noSlot, slotOf, few, isNothing, over, packed}
 use Rattle.numbers.specs.Unpacks.{KnownOp, unpacked}

@@ -9,7 +9,7 @@ use Rattle.plans.specs.Answers.{refusal, values}
 use Rattle.running.specs.declared.Op.{Op}
 use Rattle.running.specs.declared.Reply.{Reply}
 use Rattle.running.specs.declared.Request.{Request}
-use Rattle.running.specs.Rule.{rule}
+use Rattle.rule.specs.Rule.{rule}
 use Rattle.numbers.specs.declared.COperation.{COperation}
 use Rattle.numbers.specs.declared.unpacks.KnownReply.{KnownReply}
 use Rattle.replies.specs.Answers.{answerNumbers, requestNumbers}

@@ -1,3 +1,3 @@
 pub mod Starts
 pub mod Waits
-pub mod Rule
+pub mod Ruled

@@ -1,10 +1,7 @@
-// A running operation: plain data that says what is left to do, how it is started, what it waits for, and the written rule that it keeps.
-mod rule;
+// A running operation: plain data that says what is left to do, how it is started, and what it waits for.
 mod starts;
 mod waits;
 
-pub use rule::call_fits;
-pub use rule::keeps_rule;
 pub use starts::start_append;
 pub use starts::start_collect;
 pub use starts::start_get;

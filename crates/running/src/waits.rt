@@ -7,7 +7,7 @@ ghost use Rattle.format.specs.Layout.{killOffset, killLength};
 ghost use Rattle.plans.specs.declared.Edit.the-variants.{Kill};
 ghost use Rattle.plans.specs.Fits.{editFits};
 ghost use Rattle.running.specs.Waits.{waitOf, requestEdit, requestOf};
-ghost use Rattle.running.specs.Rule.{Ruled};
+ghost use Rattle.running.specs.Ruled.{Ruled};
 use crate::Op;
 use crate::Request;
 use crate::Wait;

@@ -11,7 +11,7 @@ use Rattle.region.specs.Walk.{metOf, walkIn, walkFrom, firstOf}
 use Rattle.plans.specs.declared.Answer.the-variants.{Written}
 use Rattle.store.specs.Call.{initialise}
 use Rattle.running.specs.declared.Request.{Request}
-use Rattle.running.specs.Rule.{rule, callFits}
+use Rattle.rule.specs.Rule.{rule, callFits}
 use Rattle.steps.specs.Step.{stepped, regionAfter, bufferAfter}
 use Rattle.runs.specs.Host.{Run, begun, drive}
 use Rattle.runs.proofs.Starts.{freshOf}

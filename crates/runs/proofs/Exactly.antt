@@ -42,8 +42,10 @@ use Rattle.running.specs.declared.Reply.{Reply}
 use Rattle.running.specs.declared.Wait.{Wait}
 use Rattle.running.specs.declared.Request.{Request}
 use Rattle.running.specs.Waits.{withPlan, waitNext, waitFirst, waitOf, requestEdit, requestFor, requestOf}
-use Rattle.running.specs.Rule.{begins, replyFits, freshFits, Ruled}
-use Rattle.running.proofs.Rules.{plan-of, fits-ruled}
+use Rattle.running.specs.Ruled.{freshFits, Ruled}
+use Rattle.rule.specs.Rule.{begins, replyFits}
+use Rattle.running.proofs.Rules.{plan-of}
+use Rattle.rule.proofs.Calls.{fits-ruled}
 use Rattle.steps.specs.declared.Stepped.{Stepped}
 use Rattle.steps.specs.Advance.{closes, turnedTo, advanceNext, advanceFirst, advance, givenBy, given}
 use Rattle.steps.specs.Step.{nextOp, fitsHere, stepped}

@@ -29,8 +29,10 @@ use Rattle.running.specs.declared.Reply.{Reply}
 use Rattle.running.specs.declared.Wait.{Wait}
 use Rattle.running.specs.declared.Request.{Request}
 use Rattle.running.specs.Waits.{waitFirst, waitOf, requestEdit, requestFor, requestOf}
-use Rattle.running.specs.Rule.{serves, replyFits, buffersFit, Ruled}
-use Rattle.running.proofs.Rules.{plan-of, fits-of, value-lent}
+use Rattle.running.specs.Ruled.{Ruled}
+use Rattle.rule.specs.Rule.{serves, replyFits, buffersFit}
+use Rattle.running.proofs.Rules.{plan-of}
+use Rattle.rule.proofs.Calls.{fits-of, value-lent}
 use Rattle.steps.specs.Advance.{advanceFirst, advance, given, filled, filledBy, copied, nextPlan, bufferOn}
 use Rattle.laying.specs.Lend.{laidFor, laid}
 use Rattle.steps.specs.Step.{fitsHere, stepped, regionAfter, bufferAfter}

@@ -17,8 +17,9 @@ use Rattle.running.specs.declared.Start.{Start}
 use Rattle.running.specs.declared.Reply.{Reply}
 use Rattle.running.specs.Starts.{started}
 use Rattle.running.specs.Waits.{waitOf}
-use Rattle.running.specs.Rule.{buffersFit, Ruled}
-use Rattle.running.proofs.Rules.{fits-of}
+use Rattle.running.specs.Ruled.{Ruled}
+use Rattle.rule.specs.Rule.{buffersFit}
+use Rattle.rule.proofs.Calls.{fits-of}
 use Rattle.laying.specs.Lend.{laid}
 use Rattle.steps.specs.Step.{stepped, regionAfter, bufferAfter}
 use Rattle.runs.specs.Host.{Run, asks, begun, drive, readies, startOf, Lends, lends-get, lends-append, lends-remove, lends-collect, lends-initialise}

@@ -24,7 +24,7 @@ use Rattle.running.specs.declared.Start.{Start}
 use Rattle.running.specs.declared.Wait.{Wait}
 use Rattle.running.specs.Starts.{started, startRefusal, startedOr}
 use Rattle.running.specs.Waits.{waitNext, waitFirst, requestEdit, requestFor, requestOf}
-use Rattle.running.specs.Rule.{Ruled}
+use Rattle.running.specs.Ruled.{Ruled}
 use Rattle.running.proofs.Rules.{plan-of, look-ruled, collect-ruled}
 use Rattle.runs.specs.Host.{Inside, reads, writes, erases, answers, startOf}
 

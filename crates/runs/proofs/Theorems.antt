@@ -30,8 +30,8 @@ use Rattle.running.specs.declared.Reply.{Reply}
 use Rattle.running.specs.declared.Request.{Request}
 use Rattle.running.specs.Starts.{getStarted, appendStarted, removeStarted, collectStarted, initialiseStarted}
 use Rattle.running.specs.Waits.{withPlan, requestOf}
-use Rattle.running.specs.Rule.{rule}
-use Rattle.running.proofs.Rules.{ruled, is-ruled, fits-ruled}
+use Rattle.rule.specs.Rule.{rule}
+use Rattle.rule.proofs.Calls.{ruled, is-ruled, fits-ruled}
 use Rattle.steps.specs.declared.Stepped.{Stepped}
 use Rattle.steps.specs.Step.{nextOp, fitsHere, stepped, regionAfter, bufferAfter}
 use Rattle.steps.proofs.Keeps.{next-ruled}

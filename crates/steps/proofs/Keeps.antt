@@ -34,7 +34,7 @@ use Rattle.planning.proofs.Plans.{Sound, Known, live, bad, through, fits-sound,
 use Rattle.values.specs.Values.{readAnswer}
 use Rattle.running.specs.declared.Op.{Op}
 use Rattle.running.specs.declared.Reply.{Reply}
-use Rattle.running.specs.Rule.{Ruled}
+use Rattle.running.specs.Ruled.{Ruled}
 use Rattle.running.proofs.Rules.{plan-of}
 use Rattle.steps.specs.Advance.{closes, turnedTo, advanceNext, advanceFirst, advance, givenBy, given, nextPlan}
 use Rattle.steps.specs.Step.{nextOp}

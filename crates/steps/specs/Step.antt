@@ -9,7 +9,7 @@ use Rattle.running.specs.declared.Op.{Op}
 use Rattle.running.specs.declared.Reply.{Reply}
 use Rattle.running.specs.declared.Request.{Request}
 use Rattle.running.specs.Waits.{withPlan, requestOf}
-use Rattle.running.specs.Rule.{callFits}
+use Rattle.rule.specs.Rule.{callFits}
 use Rattle.steps.specs.declared.Stepped.{Stepped}
 use Rattle.steps.specs.Advance.{nextPlan, bufferOn}
 use Rattle.laying.specs.Lend.{laidOn}

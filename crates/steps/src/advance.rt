@@ -4,7 +4,7 @@ ghost use mathlib.Core.Bool.{true};
 ghost use Prim.Native.Nat.{_+_, _≤_, _<_};
 ghost use lib.ListN.{length};
 ghost use Rattle.plans.specs.Fits.{thenFits};
-ghost use Rattle.running.specs.Rule.{Ruled};
+ghost use Rattle.running.specs.Ruled.{Ruled};
 ghost use Rattle.steps.specs.Advance.{closes, turnedTo, seekNext, advance, given, copied, filled, nextPlan, bufferOn};
 use format::Record;
 use lookup::Seen;

@@ -23,7 +23,7 @@ pub fn step(op: Op, reply: Reply, region: &mut [u8], value: &[u8], buffer: &mut 
         × (now (region .exit) ≡ regionAfter op reply (now (region .entry)) (now (value .entry)) (now (buffer .entry)))
         × (now (buffer .exit) ≡ bufferAfter op reply (now (region .entry)) (now (value .entry)) (now (buffer .entry))) ⌝ }
 {
-    if !running::call_fits(op, reply, region.len(), value.len(), buffer.len()) {
+    if !rule::call_fits(op, reply, region.len(), value.len(), buffer.len()) {
         return Stepped {
             op,
             request: Request::Answers(Answer::Refused(Refusal::BadCall)),

@@ -7,8 +7,8 @@ use mathlib.Core.Bool.{true}
 use borrow.Author.Tests.{not-true, not-false}
 use Rattle.running.specs.declared.Op.{Op}
 use Rattle.running.specs.Waits.{withPlan, requestOf}
-use Rattle.running.specs.Rule.{Ruled}
-use Rattle.running.proofs.Rules.{fits-ruled, value-lent}
+use Rattle.running.specs.Ruled.{Ruled}
+use Rattle.rule.proofs.Calls.{fits-ruled, value-lent}
 use Rattle.laying.specs.Lend.{laidOn}
 use Rattle.steps.specs.Step.{nextOp, stepped, regionAfter, bufferAfter}
 use Rattle.steps.proofs.Keeps.{next-ruled}
@@ -16,7 +16,7 @@ use borrow.Author.Needs.{needs}
 use Rattle.steps.proofs.step.Statement.{statement}
 use Rattle.steps.proofs.step.Tie as tie
 use Rattle.running.proofs.Op.with_plan.Reads as with-plan-reads
-use Rattle.running.proofs.call_fits.Reads as call-fits-reads
+use Rattle.rule.proofs.call_fits.Reads as call-fits-reads
 use Rattle.running.proofs.request_of.Reads as request-of-reads
 use Rattle.steps.proofs.advance.next_plan.Reads as next-plan-reads
 use Rattle.laying.proofs.lay_on.Reads as lay-on-reads

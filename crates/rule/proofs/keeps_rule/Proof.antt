@@ -1,4 +1,4 @@
--- `running::rule::keeps_rule` meets its contract: each test of the code is one of the definition, in the same order.
+-- `rule::keeps_rule` meets its contract: each test of the code is one of the definition, in the same order.
 -- Assumes nothing.
 use mathlib.Core.Path.{_≡_, sym, _∙_, ap}
 use mathlib.Core.Bool.{Bool, true}
@@ -7,15 +7,16 @@ use Rattle.chip.specs.Geometry.{sized}
 use Rattle.probe.specs.Probe.{allowedKey}
 use Rattle.plans.specs.declared.First.{First}
 use Rattle.plans.specs.Writes.{first}
-use Rattle.running.specs.Rule.{freshFits, rule}
+use Rattle.running.specs.Ruled.{freshFits}
+use Rattle.rule.specs.Rule.{rule}
 use borrow.Author.Needs.{needs}
-use Rattle.running.proofs.rule.keeps_rule.Statement.{statement}
-use Rattle.running.proofs.rule.keeps_rule.Tie as tie
+use Rattle.rule.proofs.keeps_rule.Statement.{statement}
+use Rattle.rule.proofs.keeps_rule.Tie as tie
 use Rattle.chip.proofs.is_sized.Reads as is-sized-reads
 use Rattle.plans.proofs.plan_fits.Reads as plan-fits-reads
 use Rattle.plans.proofs.first_of.Reads as first-of-reads
 use Rattle.probe.proofs.allowed_key.Reads as allowed-key-reads
-use Rattle.running.proofs.rule.fresh_fits.Reads as fresh-fits-reads
+use Rattle.rule.proofs.fresh_fits.Reads as fresh-fits-reads
 
 sized-here : (c : tie.Else1) → let op = c .before .before .before .args .op in sized (op .s) (op .n) ≡ true
 sized-here c = sym (c .before .is-sized .ensures) ∙ not-false _ (c .if1 .left)

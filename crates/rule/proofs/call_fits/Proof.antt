@@ -1,15 +1,15 @@
--- `running::rule::call_fits` meets its contract: each test of the code is one of the definition, in the same order.
+-- `rule::call_fits` meets its contract: each test of the code is one of the definition, in the same order.
 -- Assumes nothing.
 use mathlib.Core.Path.{_≡_, sym, _∙_}
 use mathlib.Core.Bool.{true}
 use borrow.Author.Tests.{eq-eqb, ne-eqb, not-true, not-false}
-use Rattle.running.specs.Rule.{rule, callFits}
+use Rattle.rule.specs.Rule.{rule, callFits}
 use borrow.Author.Needs.{needs}
-use Rattle.running.proofs.rule.call_fits.Statement.{statement}
-use Rattle.running.proofs.rule.call_fits.Tie as tie
-use Rattle.running.proofs.rule.buffers_fit.Reads as buffers-fit-reads
-use Rattle.running.proofs.rule.keeps_rule.Reads as keeps-rule-reads
-use Rattle.running.proofs.rule.reply_fits.Reads as reply-fits-reads
+use Rattle.rule.proofs.call_fits.Statement.{statement}
+use Rattle.rule.proofs.call_fits.Tie as tie
+use Rattle.rule.proofs.buffers_fit.Reads as buffers-fit-reads
+use Rattle.rule.proofs.keeps_rule.Reads as keeps-rule-reads
+use Rattle.rule.proofs.reply_fits.Reads as reply-fits-reads
 
 rule-here : (c : tie.Else1) → rule (c .before .before .args .op) ≡ true
 rule-here c = sym (c .before .keeps-rule .ensures) ∙ not-false _ (c .if1 .left)

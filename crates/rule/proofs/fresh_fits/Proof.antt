@@ -1,9 +1,9 @@
--- `running::rule::fresh_fits` meets its contract: each case of the code is one of the definition.
+-- `rule::fresh_fits` meets its contract: each case of the code is one of the definition.
 -- Assumes nothing.
 use borrow.Author.Tests.{not-true, not-false}
 use borrow.Author.Needs.{needs}
-use Rattle.running.proofs.rule.fresh_fits.Statement.{statement}
-use Rattle.running.proofs.rule.fresh_fits.Tie as tie
+use Rattle.rule.proofs.fresh_fits.Statement.{statement}
+use Rattle.rule.proofs.fresh_fits.Tie as tie
 
 returns : tie.Need-returns
 returns c = rw (not-true (c .before .args .fresh) (c .if1 .taken))

@@ -1,28 +1,17 @@
--- The written rule: what every running operation that a start or a step hands back keeps, as a test on the operation alone.
+-- The written rule: what every running operation that a start or a step hands back keeps, as a test on the operation alone; and the calls that it allows.
 use Prim.Native.Nat.{ℕ}
-use mathlib.Core.Path.{_≡_}
 use mathlib.Core.Bool.{Bool, true, false, _&&_}
 use lib.Dec.{eqb}
-use Rattle.chip.specs.Geometry.{Shape, sized}
+use Rattle.chip.specs.Geometry.{sized}
 use Rattle.probe.specs.Probe.{allowedKey}
 use Rattle.plans.specs.declared.Lent.{Lent}
-use Rattle.plans.specs.declared.First.{First}
-use Rattle.plans.specs.declared.Then.{Then}
 use Rattle.plans.specs.Writes.{first}
 use Rattle.plans.specs.Fits.{planFits}
 use Rattle.running.specs.declared.Op.{Op}
 use Rattle.running.specs.declared.Reply.{Reply}
 use Rattle.running.specs.declared.Wait.{Wait}
 use Rattle.running.specs.Waits.{waitOf}
-
--- A fresh operation has a service to ask for: it does not begin with an answer.
-abbrev pub freshFits : Bool → First → Then → Bool
-freshFits false f next = true
-freshFits true (First.Do e) next = true
-freshFits true First.Nothing (Then.Ends answer) = false
-freshFits true First.Nothing (Then.Seek aim i seen) = true
-freshFits true First.Nothing (Then.Sweep r k) = true
-freshFits true First.Nothing (Then.Gives r x anew) = true
+use Rattle.running.specs.Ruled.{freshFits}
 
 -- The chip's geometry and the key are allowed, and what is left of the plan lies in the chip, is one for what is lent, and asks for something at first.
 unfoldable pub rule : Op → Bool
@@ -59,10 +48,3 @@ buffersFit (Lent.Buffer len) value buffer = eqb buffer len
 -- but the first step or another reply at the first, a step after the end, or a running operation that breaks the written rule".
 unfoldable pub callFits : Op → Reply → ℕ → ℕ → ℕ → Bool
 callFits op y region value buffer = rule op && (eqb region (op .s) && (buffersFit (op .lent) value buffer && replyFits (waitOf op) y))
-
--- The rule as facts, which functions inside ask for.
-pub record Ruled (op : Op) : Type 0 where
-  pub shape : Shape (op .s) (op .n)
-  pub key-good : allowedKey (op .key) ≡ true
-  pub fresh-good : freshFits (op .fresh) (first (op .plan .edits)) (op .plan .next) ≡ true
-  pub plan-good : planFits (op .s) (op .n) (op .lent) (op .plan) ≡ true

@@ -1,12 +1,13 @@
 // The written rule, and the calls that it allows.
 ghost use mathlib.Core.Path.{_≡_};
 ghost use Rattle.running.specs.Waits.{waitOf};
-ghost use Rattle.running.specs.Rule.{freshFits, rule, begins, serves, replyFits, buffersFit, callFits};
-use crate::Op;
-use crate::Reply;
+ghost use Rattle.running.specs.Ruled.{freshFits};
+ghost use Rattle.rule.specs.Rule.{rule, begins, serves, replyFits, buffersFit, callFits};
 use plans::First;
 use plans::Lent;
 use plans::Then;
+use running::Op;
+use running::Reply;
 
 // The rule as a test on the operation alone.
 pub fn keeps_rule(op: Op) -> bool
@@ -94,21 +95,21 @@ fn reply_fits(op: Op, reply: Reply) -> bool
         return is_service(reply);
     }
     match next {
-        Then::Ends(_) => false,
-        Then::Seek {
-            aim: _,
-            i: _,
-            seen: _,
-        } => is_service(reply),
-        Then::Sweep {
-            region: _,
-            erased: _,
-        } => is_service(reply),
-        Then::Gives {
+        Then::Ends(_)
+        | Then::Gives {
             region: _,
             rec: _,
             anew: _,
         } => false,
+        Then::Seek {
+            aim: _,
+            i: _,
+            seen: _,
+        }
+        | Then::Sweep {
+            region: _,
+            erased: _,
+        } => is_service(reply),
     }
 }
 

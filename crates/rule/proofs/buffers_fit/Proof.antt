@@ -1,8 +1,8 @@
 use borrow.Author.Needs.{needs}
-use Rattle.running.proofs.rule.buffers_fit.Statement.{statement}
-use Rattle.running.proofs.rule.buffers_fit.Tie as tie
-use Rattle.running.proofs.rule.buffers_fit.Reads as reads
-use Rattle.running.proofs.rule.buffers_fit.Lts as lts
+use Rattle.rule.proofs.buffers_fit.Statement.{statement}
+use Rattle.rule.proofs.buffers_fit.Tie as tie
+use Rattle.rule.proofs.buffers_fit.Reads as reads
+use Rattle.rule.proofs.buffers_fit.Lts as lts
 
 -- src/rule.rt:61:26
 enum-told : tie.Need-enum-told
