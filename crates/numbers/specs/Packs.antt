@@ -18,6 +18,7 @@ use Rattle.plans.specs.Writes.{first}
 use Rattle.running.specs.declared.Op.{Op}
 use Rattle.running.specs.declared.Start.{Start}
 use Rattle.operations.specs.declared.COperation.{COperation}
+use Rattle.operations.specs.Unpacks.{noOperation}
 use Rattle.numbers.specs.declared.CStart.{CStart}
 use Rattle.numbers.specs.declared.packs.Slot.{Slot}
 use Rattle.numbers.specs.declared.packs.Next.{Next}
