@@ -2,10 +2,9 @@
 mod layout;
 
 pub use layout::check_sum_fits;
-pub use layout::lay_kill;
-pub use layout::lay_record;
-pub use layout::write_kill;
-pub use layout::write_record;
+pub use layout::dead_header;
+pub use layout::new_header;
+pub use layout::sum_bytes;
 ghost use mathlib.Core.Path.{_≡_};
 ghost use Rattle.format.specs.Layout.{live};
 

@@ -21,10 +21,10 @@ fn lay_new(key: u64, lent: Lent, at: usize, region: &mut [u8], value: &[u8])
     ensures { λ _. ⌜ now (region .exit) ≡ sets (now (region .entry)) at (recordBytes key (valueOf lent (now (value .entry)))) ⌝ }
 {
     let Lent::Value(_) = lent else {
-        format::lay_record(region, at, key, b"");
+        placing::lay_record(region, at, key, b"");
         return;
     };
-    format::lay_record(region, at, key, value);
+    placing::lay_record(region, at, key, value);
 }
 
 // The bytes of an edit, at their own place in the region.
@@ -41,7 +41,7 @@ fn lay_edit(key: u64, lent: Lent, edit: Edit, n: usize, region: &mut [u8], value
             region: _,
             rec,
         } => {
-            format::lay_kill(region, how, rec);
+            placing::lay_kill(region, how, rec);
         }
         Edit::Erase { region: _ } => {}
     }

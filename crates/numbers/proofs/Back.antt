@@ -17,11 +17,11 @@ use Rattle.plans.specs.declared.First.{First}
 use Rattle.plans.specs.declared.Then.{Then}
 use Rattle.plans.specs.Writes.{first}
 use Rattle.running.specs.declared.Op.{Op}
-use Rattle.numbers.specs.declared.COperation.{COperation}
+use Rattle.operations.specs.declared.COperation.{COperation}
 use Rattle.numbers.specs.declared.packs.Slot.{Slot}
 use Rattle.numbers.specs.declared.packs.Next.{Next}
 use Rattle.numbers.specs.Packs.{lentNumber, lentLength, noSlot, slotOf, few, aimNumber, nextAt, nextNumbers, isNothing, over, freshNumber, inNumbers, packed, Looks}
-use Rattle.numbers.specs.Unpacks.{KnownOp, lentIn, editsIn, aimIn, nextIn, readAs, ownFresh, ownLent, ownEdit, ownAim, leftIn, ownNext, standing, unpacked}
+use Rattle.operations.specs.Unpacks.{KnownOp, lentIn, editsIn, aimIn, nextIn, readAs, ownFresh, ownLent, ownEdit, ownAim, leftIn, ownNext, standing, unpacked}
 
 -- Each part comes back, and its numbers are its own.
 

@@ -17,11 +17,11 @@ use Rattle.plans.specs.declared.Edits.{Edits}
 use Rattle.plans.specs.declared.Then.{Then}
 use Rattle.plans.specs.Writes.{first}
 use Rattle.running.specs.declared.Op.{Op}
-use Rattle.numbers.specs.declared.COperation.{COperation}
+use Rattle.operations.specs.declared.COperation.{COperation}
 use Rattle.numbers.specs.declared.packs.Slot.{Slot}
 use Rattle.numbers.specs.declared.packs.Next.{Next}
 use Rattle.numbers.specs.Packs.{lentNumber, lentLength, slotOf, few, aimNumber, seekNumbers, nextNumbers, isNothing, overAfter, freshNumber, packed}
-use Rattle.numbers.specs.Unpacks.{KnownOp, lentIn, recordIn, editsIn, aimIn, gatheredIn, nextIn, readAs, ownFresh, ownLent, bare, ownEdit, ownAim, ownGathered, plain, leftIn, ownEnd, ownNext, standing, unpacked}
+use Rattle.operations.specs.Unpacks.{KnownOp, lentIn, recordIn, editsIn, aimIn, gatheredIn, nextIn, readAs, ownFresh, ownLent, bare, ownEdit, ownAim, ownGathered, plain, leftIn, ownEnd, ownNext, standing, unpacked}
 use Rattle.numbers.proofs.Back.{whole-packed}
 
 -- a number that is tested first

@@ -22,7 +22,7 @@ use Rattle.running.specs.Ruled.{freshFits}
 use Rattle.rule.specs.Rule.{rule, replyFits, buffersFit, callFits}
 use Rattle.numbers.specs.declared.packs.Slot.{Slot}
 use Rattle.numbers.specs.Packs.{noSlot, slotOf, few, isNothing, over, packed}
-use Rattle.numbers.specs.Unpacks.{KnownOp, unpacked}
+use Rattle.operations.specs.Unpacks.{KnownOp, unpacked}
 use Rattle.numbers.proofs.Back.{seek-back, end-back, whole-packed, comes-back, not-running, not-ended}
 
 -- The numbers of an operation stand for it, or they stand for nothing, and no call fits it: it breaks the rule, or has ended.

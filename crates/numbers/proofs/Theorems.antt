@@ -10,11 +10,12 @@ use Rattle.running.specs.declared.Op.{Op}
 use Rattle.running.specs.declared.Reply.{Reply}
 use Rattle.running.specs.declared.Request.{Request}
 use Rattle.rule.specs.Rule.{rule}
-use Rattle.numbers.specs.declared.COperation.{COperation}
-use Rattle.numbers.specs.declared.unpacks.KnownReply.{KnownReply}
+use Rattle.operations.specs.declared.COperation.{COperation}
+use Rattle.operations.specs.declared.unpacks.KnownReply.{KnownReply}
 use Rattle.replies.specs.Answers.{answerNumbers, requestNumbers}
-use Rattle.numbers.specs.Packs.{few, over, packed, noOperation}
-use Rattle.numbers.specs.Unpacks.{KnownOp, standing, unpacked, replyNumber, knownReply}
+use Rattle.operations.specs.Unpacks.{noOperation}
+use Rattle.numbers.specs.Packs.{few, over, packed}
+use Rattle.operations.specs.Unpacks.{KnownOp, standing, unpacked, replyNumber, knownReply}
 use Rattle.replies.proofs.Answered.{answerIn, answer-back, requestIn, request-back}
 use Rattle.numbers.proofs.Own.{own, no-layout}
 use Rattle.numbers.proofs.Standing.{Standing, runs, breaks, ended, stood}

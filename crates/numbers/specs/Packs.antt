@@ -2,10 +2,8 @@
 use Prim.Native.Nat.{ℕ}
 use mathlib.Core.Path.{_≡_}
 use mathlib.Core.Bool.{Bool, true, false, cond}
-use Rattle.format.specs.declared.Record.{Record}
 use Rattle.format.specs.declared.Removal.{Removal}
 use Rattle.lookup.specs.declared.Room.{Room}
-use Rattle.lookup.specs.declared.Seen.{Seen}
 use Rattle.refusals.specs.Refusals.{number}
 use Rattle.plans.specs.declared.Answer.{Answer}
 use Rattle.plans.specs.declared.Answer.the-variants.{Complete, Written, Freed, Refused}
@@ -19,7 +17,8 @@ use Rattle.plans.specs.declared.Plan.{Plan}
 use Rattle.plans.specs.Writes.{first}
 use Rattle.running.specs.declared.Op.{Op}
 use Rattle.running.specs.declared.Start.{Start}
-use Rattle.numbers.specs.declared.COperation.{COperation}
+use Rattle.operations.specs.declared.COperation.{COperation}
+use Rattle.operations.specs.Unpacks.{noOperation}
 use Rattle.numbers.specs.declared.CStart.{CStart}
 use Rattle.numbers.specs.declared.packs.Slot.{Slot}
 use Rattle.numbers.specs.declared.packs.Next.{Next}
@@ -147,31 +146,6 @@ packed op =
     cond (over (op .plan)) (inNumbers op noSlot (nextAt 6 0 0))
     (cond (few (op .plan .edits)) (inNumbers op (slotOf (op .plan .edits)) (nextNumbers (op .plan .next)))
     (inNumbers op noSlot (nextAt 0 0 0)))
-
--- no operation
-abbrev pub noOperation : COperation
-noOperation = record {
-  layout = 0;
-  fresh = 0;
-  lent = 0;
-  edit = 0;
-  next = 0;
-  aim = 0;
-  tag = 0;
-  version = 0;
-  flags = 0;
-  s = 0;
-  n = 0;
-  key = 0;
-  len = 0;
-  region = 0;
-  at = 0;
-  size = 0;
-  found = 0;
-  a = 0;
-  b = 0;
-  c = 0;
-}
 
 -- A start hands out a running operation, or refuses by number and hands out none.
 abbrev pub startNumbers : Start → CStart

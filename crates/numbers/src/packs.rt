@@ -2,10 +2,10 @@
 ghost use mathlib.Core.Path.{_≡_};
 ghost use Rattle.plans.specs.Writes.{first};
 ghost use Rattle.numbers.specs.Packs.{lentNumber, lentLength, slotAt, killNumber, editNumbers, slotOf, few, aimNumber, nextAt, seekNumbers, endNumbers, nextNumbers, isNothing, over, freshNumber, inNumbers, packed, startNumbers, Looks, startLooks};
-use crate::COperation;
 use crate::CStart;
 use format::Removal;
 use lookup::Room;
+use operations::COperation;
 use plans::Aim;
 use plans::Answer;
 use plans::Edit;

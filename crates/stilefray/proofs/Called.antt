@@ -8,11 +8,11 @@ use Rattle.running.specs.declared.Op.{Op}
 use Rattle.running.specs.declared.Reply.{Reply}
 use Rattle.running.specs.Waits.{withPlan, requestOf}
 use Rattle.steps.specs.Step.{fitsHere, stepped, regionAfter, bufferAfter}
-use Rattle.numbers.specs.declared.COperation.{COperation}
+use Rattle.operations.specs.declared.COperation.{COperation}
 use Rattle.numbers.specs.declared.CStepped.{CStepped}
-use Rattle.numbers.specs.declared.unpacks.KnownReply.{KnownReply}
+use Rattle.operations.specs.declared.unpacks.KnownReply.{KnownReply}
 use Rattle.numbers.specs.Packs.{packed}
-use Rattle.numbers.specs.Unpacks.{KnownOp, unpacked, knownReply}
+use Rattle.operations.specs.Unpacks.{KnownOp, unpacked, knownReply}
 use Rattle.stilefray.specs.Stepped.{badCall, packedStep, onKnown, stepNumbers, stepRegion, stepBuffer}
 use Rattle.numbers.proofs.Own.{own}
 

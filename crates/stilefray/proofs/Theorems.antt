@@ -14,11 +14,11 @@ use Rattle.running.specs.declared.Reply.{Reply}
 use Rattle.running.specs.Starts.{startRefusal, startedOr, lookStarted, collectStarted}
 use Rattle.running.specs.Waits.{withPlan}
 use Rattle.steps.specs.Step.{fitsHere, stepped, regionAfter, bufferAfter}
-use Rattle.numbers.specs.declared.COperation.{COperation}
+use Rattle.operations.specs.declared.COperation.{COperation}
 use Rattle.numbers.specs.declared.CStepped.{CStepped}
-use Rattle.numbers.specs.declared.unpacks.KnownReply.{KnownReply}
+use Rattle.operations.specs.declared.unpacks.KnownReply.{KnownReply}
 use Rattle.numbers.specs.Packs.{few, packed, startFew}
-use Rattle.numbers.specs.Unpacks.{KnownOp, unpacked, replyNumber, knownReply}
+use Rattle.operations.specs.Unpacks.{KnownOp, unpacked, replyNumber, knownReply}
 use Rattle.numbers.proofs.Own.{own}
 use Rattle.numbers.proofs.Standing.{Standing, runs, breaks, ended, stood, waits-begun}
 use Rattle.numbers.proofs.Theorems.{known-number}

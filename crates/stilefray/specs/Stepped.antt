@@ -8,12 +8,12 @@ use Rattle.running.specs.declared.Reply.{Reply}
 use Rattle.running.specs.declared.Request.{Request}
 use Rattle.steps.specs.declared.Stepped.{Stepped}
 use Rattle.steps.specs.Step.{stepped, regionAfter, bufferAfter}
-use Rattle.numbers.specs.declared.COperation.{COperation}
+use Rattle.operations.specs.declared.COperation.{COperation}
 use Rattle.numbers.specs.declared.CStepped.{CStepped}
-use Rattle.numbers.specs.declared.unpacks.KnownReply.{KnownReply}
+use Rattle.operations.specs.declared.unpacks.KnownReply.{KnownReply}
 use Rattle.replies.specs.Answers.{requestNumbers}
 use Rattle.numbers.specs.Packs.{packed}
-use Rattle.numbers.specs.Unpacks.{KnownOp, unpacked, knownReply}
+use Rattle.operations.specs.Unpacks.{KnownOp, unpacked, knownReply}
 
 -- "BadCall leaves the running operation as it was": all its numbers.
 abbrev pub badCall : COperation → CStepped

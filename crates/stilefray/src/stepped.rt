@@ -4,10 +4,10 @@ ghost use Rattle.format.specs.declared.Removal.{Removal};
 ghost use Rattle.running.specs.Starts.{getStarted, appendStarted, removeStarted, collectStarted, initialiseStarted};
 ghost use Rattle.numbers.specs.Packs.{startNumbers};
 ghost use Rattle.stilefray.specs.Stepped.{badCall, stepNumbers, stepRegion, stepBuffer};
-use numbers::COperation;
 use numbers::CStart;
 use numbers::CStepped;
-use numbers::KnownReply;
+use operations::COperation;
+use operations::KnownReply;
 use plans::Answer;
 use refusals::Refusal;
 use running::Request;
@@ -76,14 +76,14 @@ pub extern "C" fn stilefray_step(
         × (now (region .exit) ≡ stepRegion op reply (now (region .entry)) (now (value .entry)) (now (buffer .entry)))
         × (now (buffer .exit) ≡ stepBuffer op reply (now (region .entry)) (now (value .entry)) (now (buffer .entry))) ⌝ }
 {
-    if !numbers::stands(op) {
+    if !operations::stands(op) {
         return bad_call(op);
     }
-    let said = numbers::known_reply(reply);
+    let said = operations::known_reply(reply);
     let KnownReply::Known(told) = said else {
         return bad_call(op);
     };
-    let stepped = steps::step(numbers::read_as(op), told, region, value, buffer);
+    let stepped = steps::step(operations::read_as(op), told, region, value, buffer);
     let after = stepped.op;
     let request = stepped.request;
     CStepped {

@@ -28,10 +28,10 @@ fn make_edit(image: &mut [u8], s: usize, n: usize, edit: Edit, key: u64, value: 
 {
     match edit {
         Edit::Lay { region, at } => {
-            format::write_record(image, region * s + at, key, value);
+            placing::write_record(image, region * s + at, key, value);
         }
         Edit::Kill { how, region, rec } => {
-            format::write_kill(image, region * s + rec.at, how, rec);
+            placing::write_kill(image, region * s + rec.at, how, rec);
         }
         Edit::Erase { region } => {
             chip::erase_region(image, s, n, region);

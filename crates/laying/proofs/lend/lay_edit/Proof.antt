@@ -7,7 +7,7 @@ use Rattle.plans.proofs.Facts.{place-facts, in-chip}
 use borrow.Author.Needs.{needs}
 use Rattle.laying.proofs.lend.lay_edit.Statement.{statement}
 use Rattle.laying.proofs.lend.lay_edit.Tie as tie
-use Rattle.format.proofs.lay_kill.Reads as lay-kill-reads
+use Rattle.placing.proofs.lay_kill.Reads as lay-kill-reads
 use Rattle.laying.proofs.lend.lay_new.Reads as lay-new-reads
 
 enum-known-edit : tie.Need-enum-known-edit

@@ -5,7 +5,7 @@ use Rattle.laying.proofs.Others.{not-value}
 use borrow.Author.Needs.{needs}
 use Rattle.laying.proofs.lend.lay_new.Statement.{statement}
 use Rattle.laying.proofs.lend.lay_new.Tie as tie
-use Rattle.format.proofs.lay_record.Reads as lay-record-reads
+use Rattle.placing.proofs.lay_record.Reads as lay-record-reads
 
 enum-told : tie.Need-enum-told
 enum-told c = search needs

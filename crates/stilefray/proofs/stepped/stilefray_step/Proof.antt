@@ -3,7 +3,7 @@
 use mathlib.Core.Path.{sym, _∙_, ap}
 use denote.Ref.{now}
 use borrow.Author.Tests.{not-true, not-false}
-use Rattle.numbers.specs.Unpacks.{KnownOp}
+use Rattle.operations.specs.Unpacks.{KnownOp}
 use Rattle.numbers.proofs.Back.{known, unknown}
 use Rattle.stilefray.specs.Stepped.{packedStep}
 use Rattle.stilefray.proofs.Called.{no-op, no-reply, fit}

@@ -1,0 +1,163 @@
+-- The running operation and the reply that numbers stand for.
+use Prim.Native.Nat.{ℕ}
+use mathlib.Core.Bool.{Bool, true, false, cond, _&&_}
+use lib.Dec.{eqb, ltb}
+use Rattle.format.specs.declared.Record.{Record}
+use Rattle.format.specs.declared.Removal.{Removal}
+use Rattle.lookup.specs.declared.Room.{Room}
+use Rattle.lookup.specs.Gather.{unseen, withRoom}
+use Rattle.plans.specs.declared.Answer.the-variants.{Complete, Written, Freed}
+use Rattle.plans.specs.declared.Aim.{Aim}
+use Rattle.plans.specs.declared.Lent.{Lent}
+use Rattle.plans.specs.declared.Edit.{Edit}
+use Rattle.plans.specs.declared.Edits.{Edits}
+use Rattle.plans.specs.declared.Then.{Then}
+use Rattle.running.specs.declared.Op.{Op}
+use Rattle.running.specs.declared.Reply.{Reply}
+use Rattle.operations.specs.declared.COperation.{COperation}
+use Rattle.operations.specs.declared.unpacks.KnownReply.{KnownReply}
+
+-- What the numbers that are used say, each read as the last kind where it is the number of none.
+
+abbrev pub lentIn : ℕ → ℕ → Lent
+lentIn lent len = cond (eqb lent 0) Lent.Nothing (cond (eqb lent 1) (Lent.Value len) (Lent.Buffer len))
+
+-- the record that a removal makes dead
+abbrev pub recordIn : COperation → Record
+recordIn o = record { at = o .at; len = o .size; version = o .version; flags = o .flags; key = o .found }
+
+abbrev pub editsIn : COperation → Edits
+editsIn o =
+    cond (eqb (o .edit) 0) Edits.Nil
+    (cond (eqb (o .edit) 1) (Edits.One (Edit.Lay (o .region) (o .at)))
+    (cond (eqb (o .edit) 2) (Edits.One (Edit.Kill Removal.Invalidate (o .region) (recordIn o)))
+    (cond (eqb (o .edit) 3) (Edits.One (Edit.Kill Removal.Zeroise (o .region) (recordIn o)))
+    (cond (eqb (o .edit) 4) (Edits.One (Edit.Erase (o .region)))
+    (Edits.Erases (o .region) (o .at))))))
+
+abbrev pub aimIn : ℕ → Aim
+aimIn aim =
+    cond (eqb aim 1) Aim.Get
+    (cond (eqb aim 2) Aim.Append
+    (cond (eqb aim 3) (Aim.Remove Removal.Invalidate)
+    (cond (eqb aim 4) (Aim.Remove Removal.Zeroise)
+    Aim.Initialise)))
+
+abbrev pub gatheredIn : ℕ → ℕ → ℕ → Room
+gatheredIn tag r o = cond (eqb tag 0) Room.Nowhere (Room.At r o (eqb tag 2))
+
+abbrev pub nextIn : COperation → Then
+nextIn o =
+    cond (eqb (o .next) 1) (Then.Seek (aimIn (o .aim)) (o .a) (withRoom (gatheredIn (o .tag) (o .b) (o .c)) unseen))
+    (cond (eqb (o .next) 2) (Then.Sweep (o .a) (o .b))
+    (cond (eqb (o .next) 3) (Then.Ends (Complete (o .a)))
+    (cond (eqb (o .next) 4) (Then.Ends Written)
+    (Then.Ends (Freed (o .a))))))
+
+unfoldable pub readAs : COperation → Op
+readAs o = record {
+  s = o .s;
+  n = o .n;
+  key = o .key;
+  lent = lentIn (o .lent) (o .len);
+  fresh = eqb (o .fresh) 1;
+  plan = record { edits = editsIn o; next = nextIn o };
+}
+
+-- Whether they are the numbers of what was read, and 0 where that has none. `own-numbers-only` and `unpacks-packed` say that these are the right tests.
+
+abbrev pub ownFresh : ℕ → Bool
+ownFresh fresh = cond (eqb fresh 1) true (eqb fresh 0)
+
+abbrev pub ownLent : ℕ → ℕ → Bool
+ownLent lent len = cond (eqb lent 0) (eqb len 0) (cond (eqb lent 1) true (eqb lent 2))
+
+-- no record is in an edit's numbers
+abbrev pub bare : COperation → Bool
+bare o = eqb (o .size) 0 && (eqb (o .found) 0 && (eqb (o .version) 0 && eqb (o .flags) 0))
+
+abbrev pub ownEdit : COperation → Bool
+ownEdit o =
+    cond (eqb (o .edit) 0) (eqb (o .region) 0 && (eqb (o .at) 0 && bare o))
+    (cond (eqb (o .edit) 1) (bare o)
+    (cond (eqb (o .edit) 2) true
+    (cond (eqb (o .edit) 3) true
+    (cond (eqb (o .edit) 4) (eqb (o .at) 0 && bare o)
+    (eqb (o .edit) 5 && bare o)))))
+
+abbrev pub ownAim : ℕ → Bool
+ownAim aim = cond (eqb aim 1) true (cond (eqb aim 2) true (cond (eqb aim 3) true (cond (eqb aim 4) true (eqb aim 5))))
+
+abbrev pub ownGathered : ℕ → ℕ → ℕ → Bool
+ownGathered tag r o = cond (eqb tag 0) (eqb r 0 && eqb o 0) (cond (eqb tag 2) true (eqb tag 1))
+
+-- no seek is in the numbers of what follows
+abbrev pub plain : COperation → Bool
+plain o = eqb (o .aim) 0 && (eqb (o .tag) 0 && eqb (o .c) 0)
+
+-- an edit is left to do: an answer alone is nothing that runs
+abbrev pub leftIn : COperation → Bool
+leftIn o = cond (eqb (o .edit) 0) false (cond (eqb (o .edit) 5) (ltb (o .region) (o .at)) true)
+
+abbrev pub ownEnd : COperation → Bool
+ownEnd o = plain o && (eqb (o .b) 0 && leftIn o)
+
+abbrev pub ownNext : COperation → Bool
+ownNext o =
+    cond (eqb (o .next) 1) (ownAim (o .aim) && ownGathered (o .tag) (o .b) (o .c))
+    (cond (eqb (o .next) 2) (plain o)
+    (cond (eqb (o .next) 3) (ownEnd o)
+    (cond (eqb (o .next) 4) (eqb (o .a) 0 && ownEnd o)
+    (eqb (o .next) 5 && ownEnd o))))
+
+-- 8 is the number of this layout.
+unfoldable pub standing : COperation → Bool
+standing o = eqb (o .layout) 8 && (ownNext o && (ownFresh (o .fresh) && (ownLent (o .lent) (o .len) && ownEdit o)))
+
+-- The running operation that numbers stand for, where they stand for any: with anything more in them they stand for none.
+pub data KnownOp : Type 0 where
+  Known : Op → KnownOp
+  Unknown : KnownOp
+
+unfoldable pub unpacked : COperation → KnownOp
+unpacked o = cond (standing o) (KnownOp.Known (readAs o)) KnownOp.Unknown
+
+-- "the host's reply (begin, done, not ready, failed)"
+abbrev pub replyNumber : Reply → ℕ
+replyNumber Reply.Begin = 0
+replyNumber Reply.Done = 1
+replyNumber Reply.NotReady = 2
+replyNumber Reply.Failed = 3
+
+unfoldable pub knownReply : ℕ → KnownReply
+knownReply y =
+    cond (eqb y 0) (KnownReply.Known Reply.Begin)
+    (cond (eqb y 1) (KnownReply.Known Reply.Done)
+    (cond (eqb y 2) (KnownReply.Known Reply.NotReady)
+    (cond (eqb y 3) (KnownReply.Known Reply.Failed)
+    KnownReply.Unknown)))
+
+-- no operation: numbers that stand for nothing
+abbrev pub noOperation : COperation
+noOperation = record {
+  layout = 0;
+  fresh = 0;
+  lent = 0;
+  edit = 0;
+  next = 0;
+  aim = 0;
+  tag = 0;
+  version = 0;
+  flags = 0;
+  s = 0;
+  n = 0;
+  key = 0;
+  len = 0;
+  region = 0;
+  at = 0;
+  size = 0;
+  found = 0;
+  a = 0;
+  b = 0;
+  c = 0;
+}
