@@ -15,8 +15,8 @@ use Rattle.chip.proofs.Image.{geometry-fits, fits-erased, region-erased-same, r
 use Rattle.chip.proofs.Theorems.{write-clears}
 use Rattle.format.specs.declared.Removal.{Removal}
 use Rattle.refusals.specs.declared.Refusal.{Refusal}
-use Rattle.planning.specs.declared.Verdict.{Verdict}
-use Rattle.planning.specs.Sweeps.{verdict}
+use Rattle.sweeping.specs.declared.Verdict.{Verdict}
+use Rattle.sweeping.specs.Sweeps.{verdict}
 use Rattle.plans.specs.Answers.{startsAnew}
 use Rattle.store.specs.Write.{Done, appendOf, removeOf, refused, initialiseOf}
 use Rattle.store.specs.Collect.{collectIn, collectOf}

@@ -14,9 +14,9 @@ use Rattle.region.specs.declared.Want.{Want}
 use Rattle.region.specs.Walk.{records, isWanted}
 use Rattle.region.proofs.Search.{None}
 use Rattle.region.proofs.Theorems.{stop-decides}
-use Rattle.planning.specs.declared.Verdict.{Verdict}
+use Rattle.sweeping.specs.declared.Verdict.{Verdict}
 use Rattle.plans.specs.declared.Answer.the-variants.{Freed}
-use Rattle.planning.specs.Sweeps.{verdict}
+use Rattle.sweeping.specs.Sweeps.{verdict}
 use Rattle.store.specs.Collect.{collectIn, collectOf}
 use Rattle.pinned.proofs.Swept.{Judged, judged}
 use Rattle.bindings.specs.WellFormed.{WellFormed, Bound}

@@ -13,9 +13,8 @@ use Rattle.rule.specs.Rule.{rule}
 use Rattle.operations.specs.declared.COperation.{COperation}
 use Rattle.operations.specs.declared.unpacks.KnownReply.{KnownReply}
 use Rattle.replies.specs.Answers.{answerNumbers, requestNumbers}
-use Rattle.operations.specs.Unpacks.{noOperation}
+use Rattle.operations.specs.Unpacks.{noOperation, KnownOp, standing, unpacked, replyNumber, knownReply}
 use Rattle.numbers.specs.Packs.{few, over, packed}
-use Rattle.operations.specs.Unpacks.{KnownOp, standing, unpacked, replyNumber, knownReply}
 use Rattle.replies.proofs.Answered.{answerIn, answer-back, requestIn, request-back}
 use Rattle.numbers.proofs.Own.{own, no-layout}
 use Rattle.numbers.proofs.Standing.{Standing, runs, breaks, ended, stood}

@@ -16,8 +16,8 @@ use Rattle.probe.proofs.Theorems.{Distinct, none, one}
 use Rattle.format.specs.declared.Fault.{Fault}
 use Rattle.plans.specs.declared.Answer.{Answer}
 use Rattle.plans.specs.declared.Answer.the-variants.{Freed}
-use Rattle.planning.specs.declared.Verdict.{Verdict}
-use Rattle.planning.specs.Sweeps.{verdict}
+use Rattle.sweeping.specs.declared.Verdict.{Verdict}
+use Rattle.sweeping.specs.Sweeps.{verdict}
 use Rattle.store.specs.Write.{Done}
 use Rattle.store.specs.Call.{collect, answerOf, imageAfter}
 use Rattle.pinned.specs.When.{NotBad, FirstBad}

@@ -26,8 +26,8 @@ use Rattle.region.proofs.Theorems.{live-decides, stop-decides}
 use Rattle.refusals.specs.Refusals.{refusalOf}
 use Rattle.plans.specs.declared.Answer.{Answer}
 use Rattle.plans.specs.declared.Answer.the-variants.{Freed, Refused}
-use Rattle.planning.specs.declared.Verdict.{Verdict}
-use Rattle.planning.specs.Sweeps.{noRecords, verdict, verdictOn}
+use Rattle.sweeping.specs.declared.Verdict.{Verdict}
+use Rattle.sweeping.specs.Sweeps.{noRecords, verdict, verdictOn}
 use Rattle.store.specs.Write.{Done, refused}
 use Rattle.store.specs.Collect.{collectIn}
 use Rattle.pinned.specs.When.{NotBad, FirstBad}

@@ -17,8 +17,8 @@ use Rattle.lookup.specs.declared.Room.{Room}
 use Rattle.lookup.specs.declared.Looked.{Looked}
 use Rattle.lookup.specs.Words.{firstRoom}
 use Rattle.lookup.specs.Turns.{lookupIn}
-use Rattle.planning.specs.declared.Verdict.{Verdict}
-use Rattle.planning.specs.Sweeps.{verdict}
+use Rattle.sweeping.specs.declared.Verdict.{Verdict}
+use Rattle.sweeping.specs.Sweeps.{verdict}
 use Rattle.store.specs.Call.{Call, get, append, remove, collect, initialise}
 
 -- What collect erases.

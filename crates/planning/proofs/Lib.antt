@@ -2,4 +2,3 @@ pub mod Shapes
 pub mod Gathered
 pub mod Plans
 pub mod Places
-pub mod Sweeping

@@ -1,12 +1,11 @@
 -- Plans lie in the chip: the one that a lookup's end makes, for any aim, the one that a region's verdict makes, and the one that a read value makes.
 -- Assumes nothing.
-use Prim.Native.Nat.{ℕ, _+_, _*_, _≤_, _<_}
+use Prim.Native.Nat.{ℕ, _≤_, _<_}
 use native.Mathlib.Omega.{arith}
 use mathlib.Core.Path.{_≡_, refl}
 use mathlib.Core.Bool.{Bool, true, false, cond}
 use mathlib.Core.List.{[], _∷_}
 use mathlib.Core.Logic.{⊎-elim}
-use lib.Dec.{ltb}
 use borrow.Author.Tests.{lt-ltb, le-leb, eqb-false}
 use types.Run.{OneOf}
 use denote.Enum.Declared.{tagOf}
@@ -25,13 +24,11 @@ use Rattle.plans.specs.declared.Edits.{Edits}
 use Rattle.plans.specs.declared.First.{First}
 use Rattle.plans.specs.declared.Then.{Then}
 use Rattle.plans.specs.declared.Plan.{Plan}
-use Rattle.planning.specs.declared.Verdict.{Verdict}
 use Rattle.plans.specs.Answers.{startsAnew}
-use Rattle.plans.specs.Writes.{valueLent, first, rest}
+use Rattle.plans.specs.Writes.{valueLent, first, rest, ends, refuses}
 use Rattle.plans.specs.Fits.{recordFits, editFits, editsFit, roomFits, seenFits, lentToAppend, lentFor, valueShort, thenFits, answerRests, rests}
-use Rattle.planning.specs.Planning.{ends, refuses, writes, gives, anew, placePlan, appendPlan, plan, givenPlan}
-use Rattle.planning.specs.Sweeps.{sweptTo, sweepPlan}
-use Rattle.plans.proofs.Facts.{PlanFits, join, begins-fits}
+use Rattle.planning.specs.Planning.{writes, gives, anew, placePlan, appendPlan, plan, givenPlan}
+use Rattle.plans.proofs.Facts.{PlanFits, join, begins-fits, ends-fits}
 use Rattle.planning.proofs.Shapes.{renews, Shape, is-refused, is-given, is-removed, is-placed, is-anew, plan-shape}
 use Rattle.planning.proofs.Gathered.{by-room}
 
@@ -72,10 +69,7 @@ module _ (s n : ℕ) (lent : Lent) where
       go (Then.Gives r x again) h = cc
 
   module _ (short : valueShort lent ≡ true) where
-    -- Plans that fit: an answer with nothing left to do, one edit and Written, everything anew.
-    pub ends-fits : (answer : Answer) → PlanFits s n lent (ends answer)
-    ends-fits answer = record { value-short = short; edits-good = refl; next-good = refl; at-rest = refl }
-
+    -- Plans that fit: one edit and Written, everything anew.
     one-fits : (e : Edit) → editFits s n (valueLent lent) e ≡ true → PlanFits s n lent (writes (Edits.One e))
     one-fits e h = record { value-short = short; edits-good = h; next-good = refl; at-rest = refl }
 
@@ -83,42 +77,25 @@ module _ (s n : ℕ) (lent : Lent) where
     anew-fits h least = record { value-short = short; edits-good = le-leb n n (omega arith); next-good = begins-fits s n lent h least; at-rest = refl }
 
     place-fits : (room : Room) → roomFits s n (valueLent lent) room ≡ true → PlanFits s n lent (placePlan room)
-    place-fits Room.Nowhere h = ends-fits _
-    place-fits (Room.At r o false) h = ends-fits _
+    place-fits Room.Nowhere h = ends-fits s n lent short _
+    place-fits (Room.At r o false) h = ends-fits s n lent short _
     place-fits (Room.At r o true) h = one-fits (Edit.Lay r o) h
-
-    -- The plan after a region's verdict.
-    swept-fits : (es : Edits) (r k : ℕ) → editsFit s n (valueLent lent) es ≡ true → k ≤ r → PlanFits s n lent (record { edits = es; next = sweptTo s n r k })
-    swept-fits es r k h l = go (ltb r n) refl
-      where
-        freed : (f : First) → answerRests f (Answer.Freed (k * s)) ≡ true
-        freed First.Nothing = refl
-        freed (First.Do e) = refl
-
-        go : (b : Bool) → ltb r n ≡ b → PlanFits s n lent (record { edits = es; next = cond b (Then.Sweep r k) (Then.Ends (Answer.Freed (k * s))) })
-        go true e = record { value-short = short; edits-good = h; next-good = join e (le-leb k r l); at-rest = refl }
-        go false e = record { value-short = short; edits-good = h; next-good = refl; at-rest = freed (first es) }
-
-    pub sweep-fits : (r k : ℕ) (v : Verdict) → r < n → k ≤ r → PlanFits s n lent (sweepPlan s n r k v)
-    sweep-fits r k Verdict.Stands h l = swept-fits Edits.Nil (r + 1) k refl (omega arith)
-    sweep-fits r k Verdict.Erase h l = swept-fits (Edits.One (Edit.Erase r)) (r + 1) (k + 1) (lt-ltb r n h) (omega arith)
-    sweep-fits r k (Verdict.Bad f p) h l = ends-fits _
 
     -- The plan after a value was read, with its answer.
     pub given-fits : (again : Bool) (answer : Answer) → renews again lent ≡ true → 1 ≤ n → PlanFits s n lent (givenPlan n again answer)
-    given-fits false answer h least = ends-fits answer
+    given-fits false answer h least = ends-fits s n lent short answer
     given-fits true answer h least = go (startsAnew answer)
       where
         go : (b : Bool) → PlanFits s n lent (cond b (anew n) (ends answer))
         go true = anew-fits h least
-        go false = ends-fits answer
+        go false = ends-fits s n lent short answer
 
     -- The plan after a lookup, for each form of it: it fits, or it gives a value.
     gives-sound : (r : ℕ) (x : Record) (again : Bool) → r < n → recordFits s x ≡ true → renews again lent ≡ true → Sound s n lent (gives r x again)
     gives-sound r x again h f q = record { value-short = short; edits-good = refl; next-good = join (lt-ltb r n h) f; settled = q }
 
     shape-sound : {t : Bool} {looked : Looked} {p : Plan} → Shape n lent t looked p → t ≡ true → 1 ≤ n → Known s n (valueLent lent) looked → Sound s n lent p
-    shape-sound is-refused l least k = fits-sound _ (ends-fits _)
+    shape-sound is-refused l least k = fits-sound _ (ends-fits s n lent short _)
     shape-sound (is-given {r} {x} {again} q) l least (live h f) = gives-sound r x again h f (q l)
     shape-sound (is-removed {how} {r} {x}) l least (live h f) = fits-sound _ (one-fits (Edit.Kill how r x) (join (lt-ltb r n h) f))
     shape-sound (is-placed {seen}) l least (through f) = fits-sound _ (by-room s n (valueLent lent) (λ room. PlanFits s n lent (placePlan room)) seen place-fits f)

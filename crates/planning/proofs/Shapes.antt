@@ -17,7 +17,8 @@ use Rattle.plans.specs.declared.Edit.{Edit}
 use Rattle.plans.specs.declared.Edits.{Edits}
 use Rattle.plans.specs.declared.Plan.{Plan}
 use Rattle.plans.specs.Fits.{lentNothing, lentToAppend, lentFor}
-use Rattle.planning.specs.Planning.{needOf, refuses, writes, gives, anew, getPlan, appendPlan, removePlan, initialisePlan, plan}
+use Rattle.plans.specs.Writes.{refuses}
+use Rattle.planning.specs.Planning.{needOf, writes, gives, anew, getPlan, appendPlan, removePlan, initialisePlan, plan}
 
 -- Where a value that cannot be given has the chip made anew, what is lent is what an append takes.
 abbrev pub renews : Bool → Lent → Bool

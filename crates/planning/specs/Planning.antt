@@ -1,4 +1,4 @@
--- The plan of an operation after its lookup: a refusal, an answer, or edits and what follows them. One row for each aim in `needOf` and in `plan`, and one in `lentFor` (Fits.antt).
+-- The plan of an operation after its lookup: a refusal, an answer, or edits and what follows them. One row for each aim in `needOf` and in `plan`, and one in `lentFor` (plans, Fits).
 use Prim.Native.Nat.{ℕ}
 use mathlib.Core.Bool.{Bool, true, false, _&&_, cond}
 use Rattle.format.specs.declared.Record.{Record}
@@ -17,7 +17,7 @@ use Rattle.plans.specs.declared.Edits.{Edits}
 use Rattle.plans.specs.declared.Then.{Then}
 use Rattle.plans.specs.declared.Plan.{Plan}
 use Rattle.plans.specs.Answers.{startsAnew}
-use Rattle.plans.specs.Writes.{follows, look}
+use Rattle.plans.specs.Writes.{follows, ends, refuses, look}
 
 -- what an aim's lookup is for, where a value of so many bytes is lent
 abbrev pub needOf : Aim → ℕ → Need
@@ -25,12 +25,6 @@ needOf Aim.Get len = Need.Nothing
 needOf Aim.Append len = Need.Room (recordLength len)
 needOf (Aim.Remove how) len = Need.Nothing
 needOf Aim.Initialise len = Need.Nothing
-
-abbrev pub ends : Answer → Plan
-ends answer = follows (Then.Ends answer)
-
-abbrev pub refuses : Refusal → Plan
-refuses w = ends (Answer.Refused w)
 
 abbrev pub writes : Edits → Plan
 writes es = record { edits = es; next = Then.Ends Answer.Written }

@@ -2,7 +2,7 @@
 ghost use mathlib.Core.Path.{_≡_};
 ghost use Prim.Native.Nat.{_≤_};
 ghost use Rattle.plans.specs.declared.Edits.the-variants.{One};
-ghost use Rattle.planning.specs.Planning.{needOf, ends, refuses, writes, gives, anew, getPlan, placePlan, appendPlan, removePlan, initialisePlan, plan, givenPlan};
+ghost use Rattle.planning.specs.Planning.{needOf, writes, gives, anew, getPlan, placePlan, appendPlan, removePlan, initialisePlan, plan, givenPlan};
 use format::Record;
 use format::Removal;
 use lookup::Hit;
@@ -29,21 +29,6 @@ pub fn need_of(aim: Aim, len: usize) -> Need
         Aim::Remove(_) => Need::Nothing,
         Aim::Initialise => Need::Nothing,
     }
-}
-
-fn ends_with(answer: Answer) -> Plan
-    ensures { λ r. ⌜ r ≡ ends answer ⌝ }
-{
-    Plan {
-        edits: Edits::Nil,
-        next: Then::Ends(answer),
-    }
-}
-
-pub fn refuse(refusal: Refusal) -> Plan
-    ensures { λ r. ⌜ r ≡ refuses refusal ⌝ }
-{
-    ends_with(Answer::Refused(refusal))
 }
 
 fn write_one(edit: Edit) -> Plan
@@ -87,7 +72,7 @@ fn get_plan(hit: Hit) -> Plan
 {
     match hit {
         Hit::Live { region, rec } => give(region, rec, false),
-        Hit::Refused(refusal) => refuse(refusal),
+        Hit::Refused(refusal) => plans::refuse(refusal),
     }
 }
 
@@ -95,12 +80,12 @@ fn place_plan(room: Room) -> Plan
     ensures { λ r. ⌜ r ≡ placePlan room ⌝ }
 {
     let Room::At { region, at, blank } = room else {
-        return refuse(Refusal::FlashFull);
+        return plans::refuse(Refusal::FlashFull);
     };
     if blank {
         write_one(Edit::Lay { region, at })
     } else {
-        refuse(Refusal::CorruptData)
+        plans::refuse(Refusal::CorruptData)
     }
 }
 
@@ -108,7 +93,7 @@ pub fn append_plan(looked: Looked) -> Plan
     ensures { λ r. ⌜ r ≡ appendPlan looked ⌝ }
 {
     let Looked::Through(seen) = looked else {
-        return refuse(looked.refusal());
+        return plans::refuse(looked.refusal());
     };
     let room = seen.room;
     place_plan(room)
@@ -119,7 +104,7 @@ pub fn remove_plan(how: Removal, hit: Hit) -> Plan
 {
     match hit {
         Hit::Live { region, rec } => write_one(Edit::Kill { how, region, rec }),
-        Hit::Refused(refusal) => refuse(refusal),
+        Hit::Refused(refusal) => plans::refuse(refusal),
     }
 }
 
@@ -149,11 +134,11 @@ pub fn given_plan(n: usize, again: bool, answer: Answer) -> Plan
     ensures { λ r. ⌜ r ≡ givenPlan n again answer ⌝ }
 {
     if !again {
-        return ends_with(answer);
+        return plans::ends_with(answer);
     }
     if plans::starts_anew(answer) {
         begin_anew(n)
     } else {
-        ends_with(answer)
+        plans::ends_with(answer)
     }
 }

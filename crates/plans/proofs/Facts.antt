@@ -11,6 +11,7 @@ use Rattle.format.specs.declared.Record.{Record}
 use Rattle.format.specs.declared.Removal.{Removal}
 use Rattle.lookup.specs.declared.Seen.{Seen}
 use Rattle.lookup.specs.Gather.{unseen}
+use Rattle.plans.specs.declared.Answer.{Answer}
 use Rattle.plans.specs.declared.Aim.{Aim}
 use Rattle.plans.specs.declared.Lent.{Lent}
 use Rattle.plans.specs.declared.Edit.{Edit}
@@ -18,7 +19,7 @@ use Rattle.plans.specs.declared.Edits.{Edits}
 use Rattle.plans.specs.declared.First.{First}
 use Rattle.plans.specs.declared.Then.{Then}
 use Rattle.plans.specs.declared.Plan.{Plan}
-use Rattle.plans.specs.Writes.{valueLent, inRegion, startOf, sizeOf, first, rest, look}
+use Rattle.plans.specs.Writes.{valueLent, inRegion, startOf, sizeOf, first, rest, ends, look}
 use Rattle.plans.specs.Fits.{lies, recordFits, placeFits, editFits, editsFit, seenFits, lentFor, valueShort, thenFits, rests, planFits}
 
 -- the other way from `both` (chip, Image)
@@ -147,6 +148,10 @@ module _ (s n : ℕ) (lent : Lent) where
 
   pub look-fits : (aim : Aim) → lentFor aim lent ≡ true → 1 ≤ n → thenFits s n lent (look aim) ≡ true
   look-fits aim h least = begins-fits h least
+
+  -- An answer with nothing left to do.
+  pub ends-fits : valueShort lent ≡ true → (answer : Answer) → PlanFits s n lent (ends answer)
+  ends-fits short answer = record { value-short = short; edits-good = refl; next-good = refl; at-rest = refl }
 
 -- a value that is short enough
 pub short-facts : (lent : Lent) → valueShort lent ≡ true → valueLent lent ≤ 4079

@@ -9,6 +9,8 @@ use Rattle.chip.specs.Chip.{written}
 use Rattle.chip.specs.Geometry.{eraseRegion, numbers}
 use Rattle.format.specs.Layout.{recordLength, recordBytes, killPlace, killLength, killBytes}
 use Rattle.lookup.specs.Gather.{unseen}
+use Rattle.refusals.specs.declared.Refusal.{Refusal}
+use Rattle.plans.specs.declared.Answer.{Answer}
 use Rattle.plans.specs.declared.Aim.{Aim}
 use Rattle.plans.specs.declared.Lent.{Lent}
 use Rattle.plans.specs.declared.Edit.{Edit}
@@ -108,6 +110,12 @@ rest (Edits.Erases i m) = cond (ltb i m) (Edits.Erases (i + 1) m) Edits.Nil
 
 abbrev pub follows : Then → Plan
 follows next = record { edits = Edits.Nil; next = next }
+
+abbrev pub ends : Answer → Plan
+ends answer = follows (Then.Ends answer)
+
+abbrev pub refuses : Refusal → Plan
+refuses w = ends (Answer.Refused w)
 
 -- a lookup begins
 abbrev pub look : Aim → Then

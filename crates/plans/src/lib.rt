@@ -5,7 +5,9 @@ mod writes;
 
 pub use answers::starts_anew;
 pub use fits::plan_fits;
+pub use writes::ends_with;
 pub use writes::first_of;
+pub use writes::refuse;
 pub use writes::rest_of;
 ghost use mathlib.Core.Path.{_≡_};
 ghost use Rattle.plans.specs.Writes.{valueLent, bufferLent};

@@ -1,9 +1,13 @@
-// A list of edits by its first and the others.
+// A list of edits by its first and the others; a plan that has none.
 ghost use mathlib.Core.Path.{_≡_};
-ghost use Rattle.plans.specs.Writes.{first, rest};
+ghost use Rattle.plans.specs.Writes.{first, rest, ends, refuses};
+use crate::Answer;
 use crate::Edit;
 use crate::Edits;
 use crate::First;
+use crate::Plan;
+use crate::Then;
+use refusals::Refusal;
 
 // The first edit that is left to do.
 pub fn first_of(edits: Edits) -> First
@@ -41,4 +45,20 @@ pub fn rest_of(edits: Edits) -> Edits
             }
         }
     }
+}
+
+// A plan that is nothing but an answer.
+pub fn ends_with(answer: Answer) -> Plan
+    ensures { λ r. ⌜ r ≡ ends answer ⌝ }
+{
+    Plan {
+        edits: Edits::Nil,
+        next: Then::Ends(answer),
+    }
+}
+
+pub fn refuse(refusal: Refusal) -> Plan
+    ensures { λ r. ⌜ r ≡ refuses refusal ⌝ }
+{
+    ends_with(Answer::Refused(refusal))
 }

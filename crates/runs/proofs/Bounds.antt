@@ -25,11 +25,11 @@ use Rattle.lookup.specs.Turns.{turnOf, onTurn, lookupIn, readFrom, regionsRead,
 use Rattle.lookup.specs.Gather.{unseen}
 use Rattle.plans.specs.declared.Edit.{Edit}
 use Rattle.plans.specs.declared.Plan.{Plan}
-use Rattle.planning.specs.declared.Verdict.{Verdict}
+use Rattle.sweeping.specs.declared.Verdict.{Verdict}
 use Rattle.plans.specs.Answers.{startsAnew}
 use Rattle.plans.specs.Writes.{listed}
 use Rattle.planning.specs.Planning.{anew, placePlan, appendPlan, removePlan}
-use Rattle.planning.specs.Sweeps.{verdict}
+use Rattle.sweeping.specs.Sweeps.{verdict}
 use Rattle.planning.proofs.Places.{by-place}
 use Rattle.store.specs.Read.{getOf}
 use Rattle.store.specs.Call.{Call, get, append, remove, collect, initialise}

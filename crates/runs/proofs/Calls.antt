@@ -32,9 +32,9 @@ use Rattle.plans.specs.declared.First.{First}
 use Rattle.plans.specs.declared.Then.{Then}
 use Rattle.plans.specs.declared.Plan.{Plan}
 use Rattle.plans.specs.Answers.{startsAnew}
-use Rattle.plans.specs.Writes.{valueLent, listed, applied, follows, look}
+use Rattle.plans.specs.Writes.{valueLent, listed, applied, follows, look, ends}
 use Rattle.plans.specs.Fits.{rests}
-use Rattle.planning.specs.Planning.{needOf, ends, anew, placePlan, appendPlan, removePlan, plan}
+use Rattle.planning.specs.Planning.{needOf, anew, placePlan, appendPlan, removePlan, plan}
 use Rattle.planning.proofs.Places.{by-place}
 use Rattle.store.specs.Read.{Got, gotBy, getOf}
 use Rattle.store.specs.Write.{Done, refused, endOf, carried, appendAfter, appendOf, removeBy, removeOf, initialiseOf}

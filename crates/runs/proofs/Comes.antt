@@ -18,7 +18,7 @@ use Rattle.running.specs.declared.Reply.{Reply}
 use Rattle.running.specs.declared.Wait.{Wait}
 use Rattle.running.specs.declared.Request.{Request}
 use Rattle.running.specs.Waits.{waitFirst, waitOf, requestEdit, requestFor}
-use Rattle.steps.specs.Advance.{nextPlan, bufferOn}
+use Rattle.advancing.specs.Advance.{nextPlan, bufferOn}
 use Rattle.runs.specs.Host.{Host, Run, asks, logged, beat, drive, readies}
 use Rattle.runs.proofs.Rests.{Conf, left, opAt, own, requestAt, at-rest, onward, Good, wait-law, done-law, good-onward, edit-leads, read-leads}
 

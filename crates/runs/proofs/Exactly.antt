@@ -28,12 +28,12 @@ use Rattle.plans.specs.declared.Edit.{Edit}
 use Rattle.plans.specs.declared.First.{First}
 use Rattle.plans.specs.declared.Then.{Then}
 use Rattle.plans.specs.declared.Plan.{Plan}
-use Rattle.planning.specs.declared.Verdict.{Verdict}
+use Rattle.sweeping.specs.declared.Verdict.{Verdict}
 use Rattle.plans.specs.Answers.{refusal, startsAnew}
-use Rattle.plans.specs.Writes.{valueLent, bufferLent, first}
+use Rattle.plans.specs.Writes.{valueLent, bufferLent, first, ends}
 use Rattle.plans.specs.Fits.{rests}
-use Rattle.planning.specs.Planning.{needOf, ends, anew, placePlan, plan}
-use Rattle.planning.specs.Sweeps.{verdict, sweptTo, sweepPlan}
+use Rattle.planning.specs.Planning.{needOf, anew, placePlan, plan}
+use Rattle.sweeping.specs.Sweeps.{verdict, sweptTo, sweepPlan}
 use Rattle.planning.proofs.Places.{by-place}
 use Rattle.planning.proofs.Shapes.{Shape, is-refused, is-given, is-removed, is-placed, is-anew, plan-shape}
 use Rattle.values.specs.Values.{readAnswer}
@@ -47,7 +47,7 @@ use Rattle.rule.specs.Rule.{begins, replyFits}
 use Rattle.running.proofs.Rules.{plan-of}
 use Rattle.rule.proofs.Calls.{fits-ruled}
 use Rattle.steps.specs.declared.Stepped.{Stepped}
-use Rattle.steps.specs.Advance.{closes, turnedTo, advanceNext, advanceFirst, advance, givenBy, given}
+use Rattle.advancing.specs.Advance.{closes, turnedTo, advanceNext, advanceFirst, advance, givenBy, given}
 use Rattle.steps.specs.Step.{nextOp, fitsHere, stepped}
 use Rattle.runs.specs.Host.{requestRefusal}
 

@@ -34,17 +34,17 @@ use Rattle.plans.specs.declared.Edits.{Edits}
 use Rattle.plans.specs.declared.First.{First}
 use Rattle.plans.specs.declared.Then.{Then}
 use Rattle.plans.specs.declared.Plan.{Plan}
-use Rattle.planning.specs.declared.Verdict.{Verdict}
+use Rattle.sweeping.specs.declared.Verdict.{Verdict}
 use Rattle.plans.specs.Writes.{valueLent, listed, applied, edited, first, rest, follows, look}
 use Rattle.plans.specs.Fits.{rests}
 use Rattle.planning.specs.Planning.{needOf, plan}
-use Rattle.planning.specs.Sweeps.{verdict, sweptTo, sweepPlan}
+use Rattle.sweeping.specs.Sweeps.{verdict, sweptTo, sweepPlan}
 use Rattle.plans.proofs.Lists.{listed-none, listed-some}
 use Rattle.store.specs.Write.{Done, refused, endOf, carried}
 use Rattle.store.specs.Collect.{collectIn}
 use Rattle.running.specs.declared.Request.{Request}
 use Rattle.running.specs.Waits.{waitNext, waitFirst, requestEdit}
-use Rattle.steps.specs.Advance.{closes, turnedTo, advanceNext, advanceFirst, given, filled}
+use Rattle.advancing.specs.Advance.{closes, turnedTo, advanceNext, advanceFirst, given, filled}
 use Rattle.runs.specs.Services.{reads, edits, collectServices}
 use Rattle.runs.proofs.Rests.{opAt, own, given-rests, filled-rests}
 use Rattle.runs.proofs.Comes.{Out, out, Comes, over, edit, read}

@@ -33,10 +33,11 @@ use Rattle.running.specs.Ruled.{Ruled}
 use Rattle.rule.specs.Rule.{serves, replyFits, buffersFit}
 use Rattle.running.proofs.Rules.{plan-of}
 use Rattle.rule.proofs.Calls.{fits-of, value-lent}
-use Rattle.steps.specs.Advance.{advanceFirst, advance, given, filled, filledBy, copied, nextPlan, bufferOn}
+use Rattle.advancing.specs.Advance.{advanceFirst, advance, given, filled, filledBy, copied, nextPlan, bufferOn}
 use Rattle.laying.specs.Lend.{laidFor, laid}
 use Rattle.steps.specs.Step.{fitsHere, stepped, regionAfter, bufferAfter}
-use Rattle.steps.proofs.Keeps.{advance-gives, next-ruled}
+use Rattle.advancing.proofs.Keeps.{advance-gives}
+use Rattle.steps.proofs.Keeps.{next-ruled}
 use Rattle.runs.specs.Host.{Host, imageServed, regionServed, Inside, reads, asks, waited, served}
 use Rattle.runs.proofs.Starts.{inside}
 

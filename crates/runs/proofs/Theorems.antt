@@ -15,7 +15,7 @@ use Rattle.chip.specs.Geometry.{Fits}
 use Rattle.format.specs.declared.Removal.{Removal}
 use Rattle.refusals.specs.declared.Refusal.{Refusal}
 use Rattle.plans.specs.declared.Answer.the-variants.{Refused, Complete, Written}
-use Rattle.planning.specs.Planning.{refuses}
+use Rattle.plans.specs.Writes.{refuses}
 use Rattle.store.specs.Read.{Got}
 use Rattle.store.specs.Write.{appendOf}
 use Rattle.store.specs.Call.{Call, answerOf, imageAfter}

@@ -13,11 +13,11 @@ use Rattle.refusals.specs.Refusals.{firstRefusal}
 use Rattle.lookup.specs.Turns.{lookupIn, regionsRead}
 use Rattle.plans.specs.declared.Aim.{Aim}
 use Rattle.plans.specs.declared.Plan.{Plan}
-use Rattle.planning.specs.declared.Verdict.{Verdict}
+use Rattle.sweeping.specs.declared.Verdict.{Verdict}
 use Rattle.plans.specs.Answers.{startsAnew}
 use Rattle.plans.specs.Writes.{listed}
 use Rattle.planning.specs.Planning.{needOf, anew, plan}
-use Rattle.planning.specs.Sweeps.{verdict}
+use Rattle.sweeping.specs.Sweeps.{verdict}
 use Rattle.store.specs.Read.{getOf}
 use Rattle.store.specs.Call.{Call, get, append, remove, collect, initialise, answerOf, imageAfter}
 use Rattle.running.specs.declared.Request.{Request}

@@ -11,7 +11,7 @@ use Rattle.running.specs.declared.Request.{Request}
 use Rattle.running.specs.Waits.{withPlan, requestOf}
 use Rattle.rule.specs.Rule.{callFits}
 use Rattle.steps.specs.declared.Stepped.{Stepped}
-use Rattle.steps.specs.Advance.{nextPlan, bufferOn}
+use Rattle.advancing.specs.Advance.{nextPlan, bufferOn}
 use Rattle.laying.specs.Lend.{laidOn}
 
 abbrev pub fitsHere : Op → Reply → List ℕ → List ℕ → List ℕ → Bool

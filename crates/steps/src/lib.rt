@@ -1,8 +1,5 @@
 // The store, one flash service at a time: each step of a running operation answers or asks for one service.
 // A step never sees the image: it is lent a region buffer, and the value or get's buffer where there is one.
-mod advance;
-
-use advance::next_plan;
 ghost use mathlib.Core.Path.{_≡_};
 ghost use Rattle.steps.specs.Step.{stepped, regionAfter, bufferAfter};
 use plans::Answer;
@@ -29,7 +26,7 @@ pub fn step(op: Op, reply: Reply, region: &mut [u8], value: &[u8], buffer: &mut 
             request: Request::Answers(Answer::Refused(Refusal::BadCall)),
         };
     }
-    let plan = next_plan(op, reply, &region[..], buffer);
+    let plan = advancing::next_plan(op, reply, &region[..], buffer);
     let after = op.with_plan(plan);
     laying::lay_on(reply, after, region, value);
     Stepped {

@@ -20,16 +20,16 @@ use Rattle.plans.specs.declared.First.{First}
 use Rattle.plans.specs.declared.Lent.{Lent}
 use Rattle.plans.specs.declared.Plan.{Plan}
 use Rattle.plans.specs.declared.Then.{Then}
-use Rattle.planning.specs.declared.Verdict.{Verdict}
+use Rattle.sweeping.specs.declared.Verdict.{Verdict}
 use Rattle.plans.specs.Answers.{startsAnew}
-use Rattle.plans.specs.Writes.{valueLent, bufferLent, first, rest}
-use Rattle.planning.specs.Planning.{needOf, ends, anew, getPlan, placePlan, removePlan, initialisePlan, plan, givenPlan}
-use Rattle.planning.specs.Sweeps.{verdict, sweepPlan}
+use Rattle.plans.specs.Writes.{valueLent, bufferLent, first, rest, ends}
+use Rattle.planning.specs.Planning.{needOf, anew, getPlan, placePlan, removePlan, initialisePlan, plan, givenPlan}
+use Rattle.sweeping.specs.Sweeps.{verdict, sweepPlan}
 use Rattle.planning.proofs.Places.{by-place}
 use Rattle.values.specs.Values.{readAnswer}
 use Rattle.running.specs.declared.Op.{Op}
 use Rattle.running.specs.declared.Reply.{Reply}
-use Rattle.steps.specs.Advance.{closes, turnedTo, advanceNext, advanceFirst, advance, givenBy, given, nextPlan}
+use Rattle.advancing.specs.Advance.{closes, turnedTo, advanceNext, advanceFirst, advance, givenBy, given, nextPlan}
 use Rattle.numbers.specs.Packs.{few}
 
 abbrev Few : Plan → Type 0

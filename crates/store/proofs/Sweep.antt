@@ -15,8 +15,8 @@ use Rattle.refusals.specs.declared.Refusal.{Refusal}
 use Rattle.refusals.specs.Refusals.{refusalOf}
 use Rattle.plans.specs.declared.Answer.{Answer}
 use Rattle.plans.specs.declared.Answer.the-variants.{Freed, Refused}
-use Rattle.planning.specs.declared.Verdict.{Verdict}
-use Rattle.planning.specs.Sweeps.{verdict}
+use Rattle.sweeping.specs.declared.Verdict.{Verdict}
+use Rattle.sweeping.specs.Sweeps.{verdict}
 use Rattle.plans.proofs.Lists.{numbers-one}
 use Rattle.store.specs.Write.{Done, refused}
 use Rattle.store.specs.Collect.{collectIn, collectOf}

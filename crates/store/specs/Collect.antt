@@ -6,8 +6,8 @@ use Rattle.chip.specs.Geometry.{geometry, regionOf, eraseRegion, numbers}
 use Rattle.refusals.specs.declared.Refusal.{Refusal}
 use Rattle.refusals.specs.Refusals.{refusalOf}
 use Rattle.plans.specs.declared.Answer.the-variants.{Freed}
-use Rattle.planning.specs.declared.Verdict.{Verdict}
-use Rattle.planning.specs.Sweeps.{verdict}
+use Rattle.sweeping.specs.declared.Verdict.{Verdict}
+use Rattle.sweeping.specs.Sweeps.{verdict}
 use Rattle.store.specs.Write.{Done, refused}
 
 -- the regions of a list in its order, with so many bytes freed before them. "A bad place ends the call with its refusal; regions before it are

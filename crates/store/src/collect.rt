@@ -1,9 +1,9 @@
 // Collect: regions whose records are all dead are erased.
 ghost use mathlib.Core.Path.{_≡_};
 ghost use Rattle.store.specs.Collect.{collectOf};
-use planning::Verdict;
 use plans::Answer;
 use refusals::Refusal;
+use sweeping::Verdict;
 
 pub fn garbage_collect(image: &mut [u8], s: usize, n: usize) -> Answer
     ensures { λ r. ⌜ (r ≡ collectOf (now (image .entry)) s n .answer) × (now (image .exit) ≡ collectOf (now (image .entry)) s n .image) ⌝ }
@@ -19,7 +19,7 @@ pub fn garbage_collect(image: &mut [u8], s: usize, n: usize) -> Answer
         }
         let a = r * s;
         let e = a + s;
-        let verdict = planning::judge(r, &image[a..e]);
+        let verdict = sweeping::judge(r, &image[a..e]);
         match verdict {
             Verdict::Stands => {
                 r += 1;

@@ -1,30 +1,26 @@
+-- `rule::buffers_fit` meets its contract: each case of the code is one of the definition.
+-- Assumes nothing.
 use borrow.Author.Needs.{needs}
 use Rattle.rule.proofs.buffers_fit.Statement.{statement}
 use Rattle.rule.proofs.buffers_fit.Tie as tie
 use Rattle.rule.proofs.buffers_fit.Reads as reads
 use Rattle.rule.proofs.buffers_fit.Lts as lts
 
--- src/rule.rt:61:26
 enum-told : tie.Need-enum-told
 enum-told c = search needs
 
--- src/rule.rt:62:21
 enum-known-lent : tie.Need-enum-known-lent
 enum-known-lent c = search needs
 
--- src/rule.rt:63:22
 enum-known-lent-2 : tie.Need-enum-known-lent-2
 enum-known-lent-2 c = search needs
 
--- src/rule.rt:57:1
 returns : tie.Need-returns
 returns c = search needs
 
--- src/rule.rt:57:1
 returns-2 : tie.Need-returns-2
 returns-2 c = rw (c .before .lent .given .1)
 
--- src/rule.rt:57:1
 returns-3 : tie.Need-returns-3
 returns-3 c = rw (c .before .lent2 .given .1)
 

@@ -18,7 +18,7 @@ use Rattle.steps.proofs.step.Tie as tie
 use Rattle.running.proofs.Op.with_plan.Reads as with-plan-reads
 use Rattle.rule.proofs.call_fits.Reads as call-fits-reads
 use Rattle.running.proofs.request_of.Reads as request-of-reads
-use Rattle.steps.proofs.advance.next_plan.Reads as next-plan-reads
+use Rattle.advancing.proofs.next_plan.Reads as next-plan-reads
 use Rattle.laying.proofs.lay_on.Reads as lay-on-reads
 
 -- the operation as it goes on

@@ -1,14 +1,14 @@
 -- `planning::planning::append_plan` meets its contract: what is no way through all regions is refused.
 -- Assumes nothing.
 use mathlib.Core.Path.{sym, _∙_, ap}
-use Rattle.planning.specs.Planning.{refuses}
+use Rattle.plans.specs.Writes.{refuses}
 use Rattle.planning.proofs.Plans.{not-through}
 use borrow.Author.Needs.{needs}
 use Rattle.planning.proofs.planning.append_plan.Statement.{statement}
 use Rattle.planning.proofs.planning.append_plan.Tie as tie
 use Rattle.lookup.proofs.Looked.refusal.Reads as refusal-reads
 use Rattle.planning.proofs.planning.place_plan.Reads as place-plan-reads
-use Rattle.planning.proofs.planning.refuse.Reads as refuse-reads
+use Rattle.plans.proofs.refuse.Reads as refuse-reads
 
 enum-known-looked : tie.Need-enum-known-looked
 enum-known-looked c = search needs

@@ -4,7 +4,7 @@ use Rattle.planning.proofs.planning.get_plan.Tie as tie
 use Rattle.planning.proofs.planning.get_plan.Reads as reads
 use Rattle.planning.proofs.planning.get_plan.Lts as lts
 use Rattle.planning.proofs.planning.give.Reads as give-reads
-use Rattle.planning.proofs.planning.refuse.Reads as refuse-reads
+use Rattle.plans.proofs.refuse.Reads as refuse-reads
 
 -- src/planning.rt:89:21
 enum-known-hit : tie.Need-enum-known-hit

@@ -7,7 +7,7 @@ use Rattle.planning.proofs.planning.given_plan.Statement.{statement}
 use Rattle.planning.proofs.planning.given_plan.Tie as tie
 use Rattle.plans.proofs.starts_anew.Reads as starts-anew-reads
 use Rattle.planning.proofs.planning.begin_anew.Reads as begin-anew-reads
-use Rattle.planning.proofs.planning.ends_with.Reads as ends-with-reads
+use Rattle.plans.proofs.ends_with.Reads as ends-with-reads
 
 ends-with-requires : tie.Need-ends-with-requires
 ends-with-requires c κs = search needs

@@ -3,7 +3,7 @@
 use borrow.Author.Needs.{needs}
 use Rattle.planning.proofs.planning.place_plan.Statement.{statement}
 use Rattle.planning.proofs.planning.place_plan.Tie as tie
-use Rattle.planning.proofs.planning.refuse.Reads as refuse-reads
+use Rattle.plans.proofs.refuse.Reads as refuse-reads
 use Rattle.planning.proofs.planning.write_one.Reads as write-one-reads
 
 enum-known-room : tie.Need-enum-known-room

@@ -3,7 +3,7 @@ use Rattle.planning.proofs.planning.remove_plan.Statement.{statement}
 use Rattle.planning.proofs.planning.remove_plan.Tie as tie
 use Rattle.planning.proofs.planning.remove_plan.Reads as reads
 use Rattle.planning.proofs.planning.remove_plan.Lts as lts
-use Rattle.planning.proofs.planning.refuse.Reads as refuse-reads
+use Rattle.plans.proofs.refuse.Reads as refuse-reads
 use Rattle.planning.proofs.planning.write_one.Reads as write-one-reads
 
 -- src/planning.rt:121:21

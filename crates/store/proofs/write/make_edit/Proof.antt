@@ -1,4 +1,4 @@
--- `store::write::make_edit` meets its contract: an edit that fits lies in the image, and one call of the chip's or the region's code makes it.
+-- `store::write::make_edit` meets its contract: an edit that fits lies in the image, and one call of the chip's code or placing's makes it.
 -- Assumes nothing.
 use Prim.Native.Nat.{_+_, _*_, _^_, _≤_, _<_}
 use native.Mathlib.Omega.{arith}
