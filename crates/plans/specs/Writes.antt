@@ -108,12 +108,15 @@ rest (Edits.Erases i m) = cond (ltb i m) (Edits.Erases (i + 1) m) Edits.Nil
 
 -- A plan with nothing to write.
 
+-- what follows comes at once
 abbrev pub follows : Then → Plan
 follows next = record { edits = Edits.Nil; next = next }
 
+-- an answer
 abbrev pub ends : Answer → Plan
 ends answer = follows (Then.Ends answer)
 
+-- a refusal
 abbrev pub refuses : Refusal → Plan
 refuses w = ends (Answer.Refused w)
 

@@ -18,6 +18,7 @@ freshFits true First.Nothing (Then.Seek aim i seen) = true
 freshFits true First.Nothing (Then.Sweep r k) = true
 freshFits true First.Nothing (Then.Gives r x anew) = true
 
+-- the rule, part by part
 pub record Ruled (op : Op) : Type 0 where
   pub shape : Shape (op .s) (op .n)
   pub key-good : allowedKey (op .key) ≡ true
