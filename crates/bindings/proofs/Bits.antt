@@ -1,33 +1,43 @@
 -- Outside an erase no bit is set: of every operation, on every image.
 -- Assumes nothing.
-use Prim.Native.Nat.{ℕ, _+_, _*_, _<_}
+use Prim.Native.Nat.{ℕ, zero, suc, _+_, _*_, _≤_, _<_}
 use native.Mathlib.Nat.{zero-add}
+use native.Mathlib.Omega.{arith}
 use mathlib.Core.Path.{_≡_, refl, _∙_, ap}
-use mathlib.Core.Bool.{Bool, true, false, cond}
+use mathlib.Core.Bool.{Bool, true, false, cond, false≢true}
 use mathlib.Core.Logic.{_⊎_, inl, inr, ⊎-elim}
 use mathlib.Core.List.{List, [], _∷_}
 use lib.Bits.{and-self}
-use lib.ListN.{getD}
-use Rattle.chip.specs.Chip.{erased}
+use lib.ListN.{length, getD}
+use lib.Seq.{length-sets}
+use Rattle.chip.specs.Chip.{written, erased}
 use Rattle.chip.specs.Geometry.{Fits, geometry, regionOf, eraseRegion, numbers}
 use Rattle.chip.proofs.Lists.{Every}
 use Rattle.chip.proofs.Image.{geometry-fits, fits-erased, region-erased-same, region-erased-other}
+use Rattle.chip.proofs.Laws.{length-written}
 use Rattle.chip.proofs.Theorems.{write-clears}
+use Rattle.probe.specs.Probe.{home}
 use Rattle.format.specs.declared.Removal.{Removal}
+use Rattle.format.specs.Layout.{recordBytes}
 use Rattle.refusals.specs.declared.Refusal.{Refusal}
 use Rattle.sweeping.specs.declared.Verdict.{Verdict}
 use Rattle.sweeping.specs.Sweeps.{verdict}
-use Rattle.plans.specs.Answers.{startsAnew}
+use Rattle.plans.specs.Answers.{refusal, numberStartsAnew, startsAnew}
 use Rattle.store.specs.Write.{Done, appendOf, removeOf, refused, initialiseOf}
 use Rattle.store.specs.Collect.{collectIn, collectOf}
 use Rattle.store.specs.Read.{getOf}
+use Rattle.store.specs.Call.{get, answerOf}
+use Rattle.pinned.proofs.Theorems.{initialise-written}
 use Rattle.bindings.specs.Calls.{OnlyCleared}
 use Rattle.bindings.proofs.Images.{same-or-not}
 use Rattle.bindings.proofs.Outcomes.{Appending, appending, Removing, removing}
 use Rattle.bindings.proofs.Collects.{numbers-below}
 
 pub same-cleared : (image : List ℕ) → OnlyCleared image image
-same-cleared image k = and-self (getD image k 0)
+same-cleared image = record { same-length = refl; bits = λ k. and-self (getD image k 0) }
+
+pub write-cleared : (image : List ℕ) (at : ℕ) (new : List ℕ) → OnlyCleared (written image at new) image
+write-cleared image at new = record { same-length = length-written image at new; bits = write-clears image at new }
 
 append-clears : (image : List ℕ) (s n key : ℕ) (value : List ℕ) (d : Done) → Appending image s n key value d → OnlyCleared (d .image) image
 append-clears image s n key value d (Appending.early z e) = same-cleared image
@@ -35,14 +45,14 @@ append-clears image s n key value d (Appending.there r x a e) = same-cleared ima
 append-clears image s n key value d (Appending.bad f p a e) = same-cleared image
 append-clears image s n key value d (Appending.full seen a e q) = same-cleared image
 append-clears image s n key value d (Appending.unblank seen r o a e h y) = same-cleared image
-append-clears image s n key value d (Appending.wrote seen r o a e h y) = write-clears image _ _
+append-clears image s n key value d (Appending.wrote seen r o a e h y) = write-cleared image _ _
 
 pub append-only-clears : (image : List ℕ) (s n key : ℕ) (value : List ℕ) → OnlyCleared (appendOf image s n key value .image) image
 append-only-clears image s n key value = append-clears image s n key value (appendOf image s n key value) (appending image s n key value)
 
 remove-clears : (how : Removal) (image : List ℕ) (s n key : ℕ) (d : Done) → Removing how image s n key d → OnlyCleared (d .image) image
 remove-clears how image s n key d (Removing.not-hit z t) = same-cleared image
-remove-clears how image s n key d (Removing.removes r x e) = write-clears image _ _
+remove-clears how image s n key d (Removing.removes r x e) = write-cleared image _ _
 
 pub remove-only-clears : (how : Removal) (image : List ℕ) (s n key : ℕ) → OnlyCleared (removeOf how image s n key .image) image
 remove-only-clears how image s n key = remove-clears how image s n key (removeOf how image s n key) (removing how image s n key)
@@ -75,11 +85,41 @@ collect-erases image s n r = go (geometry image s n) refl
     go true e = swept s n (numbers 0 n) image 0 (geometry-fits e) (rw zero-add at (numbers-below 0 n)) r
     go false e = inl refl
 
--- initialise: nothing, or an erase of all and append's write
-pub initialise-clears : (image : List ℕ) (s n key : ℕ) → (initialiseOf image s n key .image ≡ image) ⊎ OnlyCleared (initialiseOf image s n key .image) (erased (n * s))
-unfolding initialiseOf
-initialise-clears image s n key = go (startsAnew (getOf image s n key [] .answer)) refl
+-- collect: the image keeps its length, over any regions
+swept-length : (s : ℕ) (rs image : List ℕ) (freed : ℕ) → length (collectIn s image freed rs .image) ≡ length image
+unfolding collectIn
+swept-length s [] image freed = refl
+swept-length s (q ∷ rs) image freed = go (swept-length s rs) (verdict q (regionOf s image q)) refl
   where
-    go : (b : Bool) → startsAnew (getOf image s n key [] .answer) ≡ b → (initialiseOf image s n key .image ≡ image) ⊎ OnlyCleared (initialiseOf image s n key .image) (erased (n * s))
-    go true e = inr (rw (e, initialiseOf) (append-only-clears (erased (n * s)) s n key []))
+    go : ((image : List ℕ) (freed : ℕ) → length (collectIn s image freed rs .image) ≡ length image) → (v : Verdict) → verdict q (regionOf s image q) ≡ v
+        → length (collectIn s image freed (q ∷ rs) .image) ≡ length image
+    go ih Verdict.Stands e = rw (e, collectIn) (ih image freed)
+    go ih (Verdict.Bad g p) e = rw (e, collectIn)
+    go ih Verdict.Erase e = rw (e, collectIn) (ih (eraseRegion s q image) (freed + s) ∙ length-sets image (q * s) (erased s))
+
+pub collect-length : (image : List ℕ) (s n : ℕ) → length (collectOf image s n .image) ≡ length image
+unfolding collectOf
+collect-length image s n = go (geometry image s n)
+  where
+    go : (b : Bool) → length (cond b (collectIn s image 0 (numbers 0 n)) (refused Refusal.BadGeometry image) .image) ≡ length image
+    go true = swept-length s (numbers 0 n) image 0
+    go false = refl
+
+-- the refusals by which initialise starts anew are all behind 1, 2 and 3
+anew-behind : (k : ℕ) → numberStartsAnew k ≡ true → 4 ≤ k
+anew-behind zero h = absurd (false≢true h)
+anew-behind (suc zero) h = absurd (false≢true h)
+anew-behind (suc (suc zero)) h = absurd (false≢true h)
+anew-behind (suc (suc (suc zero))) h = absurd (false≢true h)
+anew-behind (suc (suc (suc (suc k)))) h = omega arith
+
+-- initialise: nothing, or an erase of all and one write
+pub initialise-writes : (image : List ℕ) (s n key : ℕ)
+    → (initialiseOf image s n key .image ≡ image) ⊎ (initialiseOf image s n key .image ≡ written (erased (n * s)) (home key n * s) (recordBytes key []))
+unfolding initialiseOf
+initialise-writes image s n key = go (startsAnew (getOf image s n key [] .answer)) refl
+  where
+    go : (b : Bool) → startsAnew (getOf image s n key [] .answer) ≡ b
+        → (initialiseOf image s n key .image ≡ image) ⊎ (initialiseOf image s n key .image ≡ written (erased (n * s)) (home key n * s) (recordBytes key []))
+    go true e = inr (ap (λ (d : Done). d .image) (initialise-written key image s n (anew-behind (refusal (answerOf (get key []) image s n)) e)))
     go false e = inl (rw (e, initialiseOf))

@@ -2,8 +2,8 @@
 -- Assumes nothing.
 use Prim.Native.Nat.{ℕ, _+_, _^_, _≤_, _<_}
 use native.Mathlib.Omega.{arith}
-use mathlib.Core.Path.{_≡_, sym, _∙_, ap, subst}
-use mathlib.Core.Bool.{true, false, false≢true, true≢false}
+use mathlib.Core.Path.{_≡_, refl, sym, _∙_, ap, subst}
+use mathlib.Core.Bool.{false≢true, true≢false}
 use mathlib.Core.Logic.{inl, inr, ⊎-elim}
 use mathlib.Core.List.{List, [], _∷_, _++_, append-assoc, List·Memᴰ, List·Memᴰ·not-nil, List·Memᴰ·eq-of-singleton, Memᴰ·append-left, Memᴰ·append-right, List·Memᴰ·append-cases, List·Memᴰ·head}
 use lib.ListN.{length}
@@ -70,11 +70,21 @@ module _ (how : Removal) (region : List ℕ) (v : Bytes region) (s : Sound regio
         new = λ y n. absurd n;
       }
 
+blank-records : (size : ℕ) (x : Record) → List·Memᴰ x (records (erased size)) → ⊥
+blank-records size x m = List·Memᴰ·not-nil (subst (λ (xs : List Record). List·Memᴰ x xs) (ap (λ (w : View). w .recs) (blank-region size)) m)
+
+-- An erase of a region without live records.
 pub erase-effect : (size : ℕ) (region : List ℕ) → None (isWanted Want.Any) (records region) → Effect (erased size) region (λ _. ⊥) (λ _. ⊥)
-erase-effect size region dull =
-    let recs = ap (λ (w : View). w .recs) (blank-region size) in
-    record {
-      from = λ x m l. absurd (List·Memᴰ·not-nil (subst (λ (xs : List Record). List·Memᴰ x xs) recs m));
-      to = λ x m l g. absurd (true≢false (sym l ∙ every-member dull m));
-      new = λ x n. absurd n;
-    }
+erase-effect size region dull = record {
+  from = λ x m l. absurd (blank-records size x m);
+  to = λ x m l g. absurd (true≢false (sym l ∙ every-member dull m));
+  new = λ x n. absurd n;
+}
+
+-- An erase of any region: every record is gone.
+pub erase-all-effect : (size : ℕ) (region : List ℕ) → Effect (erased size) region (λ _. ⊥) (λ x. x ≡ x)
+erase-all-effect size region = record {
+  from = λ x m l. absurd (blank-records size x m);
+  to = λ x m l g. absurd (g refl);
+  new = λ x n. absurd n;
+}

@@ -6,6 +6,8 @@ pub mod Lookups
 pub mod Outcomes
 pub mod Kept
 pub mod Collects
+pub mod Broken
+pub mod Anew
 pub mod Answers
 pub mod Lasting
 pub mod Bits

@@ -1,23 +1,25 @@
--- What a stored record can count on. Read from top to bottom: the sentences of the third demand on what a call does to the bindings, and what
--- follows for a stored record. The arguments are in the files beside this one.
+-- What a stored record can count on. Read from top to bottom: the sentences of the third demand on what a call does to the bindings, what follows
+-- for a stored record, what erases leave that are broken off, and which bits a call may set. The arguments are in the files beside this one.
 -- `key < 2 ^ 64` and `Bytes value` say of a key and a value what the types of the calls say: 64 bits, bytes.
 -- Assumes nothing.
 use Prim.Native.Nat.{ℕ, _+_, _*_, _^_, _≤_, _<_}
 use native.Mathlib.Omega.{arith}
 use mathlib.Core.Path.{_≡_, refl, sym, _∙_, ap, subst}
 use mathlib.Core.Bool.{true}
-use mathlib.Core.Logic.{_⊎_, inl, _↔_}
-use mathlib.Core.List.{List, _++_, List·Memᴰ}
+use mathlib.Core.Logic.{_⊎_, inl, ⊎-elim, _↔_}
+use mathlib.Core.List.{List, [], _++_, List·Memᴰ}
 use lib.ListN.{length, getD, take, drop}
-use Rattle.chip.specs.Chip.{Bytes, erased}
+use Rattle.chip.specs.Chip.{Bytes, written, erased}
 use Rattle.chip.specs.Geometry.{Shape, regionOf, eraseRegion}
+use Rattle.chip.specs.Every.{Every}
 use Rattle.chip.proofs.Theorems.{erase-only}
 use Rattle.chip.proofs.Image.{region-length}
 use Rattle.probe.specs.Probe.{allowedKey, home, probes}
 use Rattle.probe.proofs.Theorems.{probes-length}
 use Rattle.region.specs.declared.Stop.{Stop}
 use Rattle.format.specs.declared.Removal.{Removal}
-use Rattle.format.specs.Layout.{recordLength}
+use Rattle.format.specs.Layout.{recordLength, recordBytes}
+use Rattle.format.proofs.Numbers.{no-bytes}
 use Rattle.region.specs.Walk.{ending}
 use Rattle.refusals.specs.declared.Refusal.{Refusal}
 use Rattle.lookup.specs.declared.Need.{Need}
@@ -29,9 +31,9 @@ use Rattle.store.specs.Write.{Done, refused, appendOf, removeOf, initialiseOf}
 use Rattle.store.specs.Read.{getOf}
 use Rattle.store.specs.Collect.{collectOf}
 use Rattle.store.specs.Call.{Call, answerOf, imageAfter}
-use Rattle.pinned.specs.Left.{Dead, erasedBy}
+use Rattle.pinned.specs.Left.{Dead, erasedBy, eraseAll}
 use Rattle.pinned.proofs.Theorems.{refused-leaves, get-alters-nothing, freed-is-counted}
-use Rattle.bindings.specs.WellFormed.{EndsAt, WellFormed, Bound}
+use Rattle.bindings.specs.WellFormed.{Lifeless, EndsAt, WellFormed, Bound}
 use Rattle.bindings.specs.Calls.{Typed, imageAfterAll, SparesAll, OnlyCleared}
 use Rattle.bindings.proofs.Images.{blank-not-stored}
 use Rattle.bindings.proofs.Images as Images
@@ -39,6 +41,8 @@ use Rattle.bindings.proofs.Lookups.{found-live}
 use Rattle.bindings.proofs.Outcomes.{removed, Removing, removing, Appending, appending}
 use Rattle.bindings.proofs.Kept as Kept
 use Rattle.bindings.proofs.Collects.{collect-done}
+use Rattle.bindings.proofs.Broken as Broken
+use Rattle.bindings.proofs.Anew.{initialise-appends, written-shape}
 use Rattle.bindings.proofs.Answers as Answers
 use Rattle.bindings.proofs.Lasting.{call-keeps, all-hold, read-most}
 use Rattle.bindings.proofs.Bits as Bits
@@ -95,6 +99,29 @@ collection-counts {s} {n} {image} w =
     let (count, which, _) = freed-is-counted image s n bytes e in
     (e ∙ ap Freed count, which)
 
+-- Initialise that answers Written leaves a well-formed image whose one binding is the main key's, with the empty value: whatever the image was before,
+-- well-formed or not.
+pub initialise-makes-well-formed : (image : List ℕ) (s n key : ℕ) → key < 2 ^ 64 → initialiseOf image s n key .answer ≡ Written
+    → WellFormed s n (initialiseOf image s n key .image)
+    × ((key′ : ℕ) (value′ : List ℕ) → Bound s n (initialiseOf image s n key .image) key′ value′ ↔ ((key′ ≡ key) × (value′ ≡ [])))
+initialise-makes-well-formed image s n key k h = subst Made (sym (ap (λ (d : Done). d .image) same)) (made (sym (ap (λ (d : Done). d .answer) same) ∙ h))
+  where
+    same : initialiseOf image s n key ≡ appendOf (erased (n * s)) s n key []
+    same = initialise-appends image s n key h
+
+    Made : List ℕ → Type 0
+    Made image′ = WellFormed s n image′ × ((key′ : ℕ) (value′ : List ℕ) → Bound s n image′ key′ value′ ↔ ((key′ ≡ key) × (value′ ≡ [])))
+
+    made : appendOf (erased (n * s)) s n key [] .answer ≡ Written → Made (appendOf (erased (n * s)) s n key [] .image)
+    made e =
+        let w = blank-well-formed (written-shape (erased (n * s)) s n key [] e) in (
+          call-keeps w (Call.append key []) (Typed.typed-append k no-bytes),
+          λ key′ value′. let adds = append-adds w key [] k no-bytes e key′ value′ in (
+            λ b. ⊎-elim (λ p. p) (λ o. absurd (blank-unbound s n key′ value′ o)) (adds .0 b),
+            λ p. adds .1 (inl p),
+          ),
+        )
+
 -- A refusal alters no binding, and no byte of the image. Get alters none, answered or refused.
 pub refusal-alters-none : {s n : ℕ} {image : List ℕ} → WellFormed s n image → (c : Call) → 1 ≤ refusal (answerOf c image s n) → imageAfter c image s n ≡ image
 refusal-alters-none {s} {n} {image} w (Call.get key buffer) h = get-alters-nothing key buffer image s n
@@ -123,7 +150,24 @@ pub append-refuses : {s n : ℕ} {image : List ℕ} → WellFormed s n image →
 append-refuses w key held value b l = Answers.append-bound w key b value l
 
 -- "So a stored record is found within N region reads, into a buffer long enough, until its own key is removed or initialise erases the chip":
--- for any list of calls after its append, with any arguments.
+-- any bound record, after any list of calls, with any arguments.
+pub bound-is-found : {s n : ℕ} {image : List ℕ} → WellFormed s n image → (key : ℕ) (value : List ℕ) → Bound s n image key value
+    → (calls : List Call) → SparesAll s n key image calls
+    → (buffer : List ℕ) → length value ≤ length buffer
+    → let later = imageAfterAll s n calls image in
+    WellFormed s n later
+    × Bound s n later key value
+    × (getOf later s n key buffer ≡ record { answer = Complete (length value); buffer = value ++ drop (length value) buffer })
+    × (length (regionsRead key Need.Nothing s later (probes key n)) ≤ n)
+bound-is-found {s} {n} {image} w key value b calls p buffer l =
+    let (last, held) = all-hold s n key value calls image w b p in (
+      last,
+      held,
+      get-finds last key value buffer held l,
+      rw (probes-length key n (w .fits .shape .n-least)) at (read-most unseen key Need.Nothing s (imageAfterAll s n calls image) (probes key n)),
+    )
+
+-- A record that append has written is bound, so it is found after any list of calls.
 pub stored-is-found : {s n : ℕ} {image : List ℕ} → WellFormed s n image → (key : ℕ) (value : List ℕ) → key < 2 ^ 64 → Bytes value
     → appendOf image s n key value .answer ≡ Written
     → (calls : List Call) → SparesAll s n key (appendOf image s n key value .image) calls
@@ -132,11 +176,38 @@ pub stored-is-found : {s n : ℕ} {image : List ℕ} → WellFormed s n image �
     (getOf later s n key buffer ≡ record { answer = Complete (length value); buffer = value ++ drop (length value) buffer })
     × (length (regionsRead key Need.Nothing s later (probes key n)) ≤ n)
 stored-is-found {s} {n} {image} w key value k v h calls p buffer l =
-    let image′ = appendOf image s n key value .image in
     let w′ = call-keeps w (Call.append key value) (Typed.typed-append k v) in
     let b = append-adds w key value k v h key value .1 (inl (refl, refl)) in
-    let (last, held) = all-hold s n key value calls image′ w′ b p in
-    (get-finds last key value buffer held l, rw (probes-length key n (w .fits .shape .n-least)) at (read-most unseen key Need.Nothing s (imageAfterAll s n calls image′) (probes key n)))
+    let (_, _, found, reads) = bound-is-found w′ key value b calls p buffer l in
+    (found, reads)
+
+-- So is the main key's own record, of the empty value, after an initialise that answers Written, on any image.
+pub initialised-is-found : (image : List ℕ) (s n key : ℕ) → key < 2 ^ 64 → initialiseOf image s n key .answer ≡ Written
+    → (calls : List Call) → SparesAll s n key (initialiseOf image s n key .image) calls
+    → (buffer : List ℕ)
+    → let later = imageAfterAll s n calls (initialiseOf image s n key .image) in
+    WellFormed s n later
+    × Bound s n later key []
+    × (getOf later s n key buffer ≡ record { answer = Complete 0; buffer = buffer })
+    × (length (regionsRead key Need.Nothing s later (probes key n)) ≤ n)
+initialised-is-found image s n key k h calls p buffer =
+    let (w, bound) = initialise-makes-well-formed image s n key k h in
+    bound-is-found w key [] (bound key [] .1 (refl, refl)) calls p buffer (omega arith)
+
+-- Broken off among its erases, an operation leaves a well-formed image: whichever regions are erased, live records in them or not.
+pub erases-keep : {s n : ℕ} {image : List ℕ} → WellFormed s n image → (rs : List ℕ) → Every (λ (q : ℕ). q < n) rs → WellFormed s n (eraseAll s rs image)
+erases-keep w rs h = Broken.erases-keep w rs h
+
+-- Where none of these regions has a live record, the bindings stay too.
+pub dead-erases-keep : {s n : ℕ} {image : List ℕ} → WellFormed s n image → (rs : List ℕ) → Every (Lifeless s n image) rs
+    → WellFormed s n (eraseAll s rs image) × ((key : ℕ) (value : List ℕ) → Bound s n (eraseAll s rs image) key value ↔ Bound s n image key value)
+dead-erases-keep w rs h = Broken.dead-erases-keep w rs h
+
+-- So a collection that is broken off after any number of its erases leaves a well-formed image, and alters no binding.
+pub collect-broken : {s n : ℕ} {image : List ℕ} → WellFormed s n image → (k : ℕ)
+    → WellFormed s n (eraseAll s (take k (erasedBy image s n)) image)
+    × ((key : ℕ) (value : List ℕ) → Bound s n (eraseAll s (take k (erasedBy image s n)) image) key value ↔ Bound s n image key value)
+collect-broken w k = Broken.collect-broken w k
 
 -- The August fault: the key's home region has no room left for the record. If append writes it all the same, it lies in another region, and get finds it.
 pub spilled-is-found : {s n : ℕ} {image : List ℕ} → WellFormed s n image → (key : ℕ) (value : List ℕ) → key < 2 ^ 64 → Bytes value
@@ -169,20 +240,28 @@ pub never-broken : {s n : ℕ} {image : List ℕ} → WellFormed s n image → (
     → (refusal (answerOf c image s n) ≡ 7 → ⊥) × (refusal (answerOf c image s n) ≡ 8 → ⊥) × (refusal (answerOf c image s n) ≡ 10 → ⊥)
 never-broken w c = let a = call-sane w c in (a .version, a .corrupt, a .sum)
 
--- "Outside an erase no bit goes from 0 to 1": of every operation, on every image, well-formed or not.
+-- "Outside an erase no bit goes from 0 to 1": of every operation, on every image, well-formed or not. A write only clears.
+pub write-only-clears : (image : List ℕ) (at : ℕ) (new : List ℕ) → OnlyCleared (written image at new) image
+write-only-clears image at new = Bits.write-cleared image at new
+
 pub append-only-clears : (image : List ℕ) (s n key : ℕ) (value : List ℕ) → OnlyCleared (appendOf image s n key value .image) image
 append-only-clears image s n key value = Bits.append-only-clears image s n key value
 
 pub removal-only-clears : (how : Removal) (image : List ℕ) (s n key : ℕ) → OnlyCleared (removeOf how image s n key .image) image
 removal-only-clears how image s n key = Bits.remove-only-clears how image s n key
 
--- Collect leaves each region as it was, or erased; initialise leaves the image, or erases all and then only clears.
+-- Collect leaves each region as it was, or erased, and the image as long as it was.
 pub collection-only-erases : (image : List ℕ) (s n r : ℕ)
     → (regionOf s (collectOf image s n .image) r ≡ regionOf s image r) ⊎ (regionOf s (collectOf image s n .image) r ≡ erased s)
 collection-only-erases image s n r = Bits.collect-erases image s n r
 
-pub initialise-only-clears : (image : List ℕ) (s n key : ℕ) → (initialiseOf image s n key .image ≡ image) ⊎ OnlyCleared (initialiseOf image s n key .image) (erased (n * s))
-initialise-only-clears image s n key = Bits.initialise-clears image s n key
+pub collection-keeps-length : (image : List ℕ) (s n : ℕ) → length (collectOf image s n .image) ≡ length image
+collection-keeps-length image s n = Bits.collect-length image s n
+
+-- Initialise leaves the image as it was, or it is one write to the erased image, which only clears.
+pub initialise-only-clears : (image : List ℕ) (s n key : ℕ)
+    → (initialiseOf image s n key .image ≡ image) ⊎ (initialiseOf image s n key .image ≡ written (erased (n * s)) (home key n * s) (recordBytes key []))
+initialise-only-clears image s n key = Bits.initialise-writes image s n key
 
 -- What an erase may raise is just its region.
 pub erase-raises-its-region : (s r : ℕ) (image : List ℕ) (k : ℕ) → (k < r * s) ⊎ (r * s + s ≤ k) → getD (eraseRegion s r image) k 0 ≡ getD image k 0

@@ -4,7 +4,7 @@ use mathlib.Core.Path.{_≡_}
 use mathlib.Core.Bool.{false}
 use mathlib.Core.List.{List, [], _∷_}
 use lib.Bits.{bitAnd}
-use lib.ListN.{getD}
+use lib.ListN.{length, getD}
 use Rattle.chip.specs.Chip.{Bytes}
 use Rattle.format.specs.declared.Removal.{Removal}
 use Rattle.plans.specs.Answers.{startsAnew}
@@ -37,6 +37,7 @@ pub data SparesAll (s n key : ℕ) : List ℕ → List Call → Type 0 where
   none : {image : List ℕ} → SparesAll s n key image []
   also : {image : List ℕ} {c : Call} {cs : List Call} → Typed c → Spares s n key image c → SparesAll s n key (imageAfter c image s n) cs → SparesAll s n key image (c ∷ cs)
 
--- every bit that is set in the new image is set in the old
-abbrev pub OnlyCleared : List ℕ → List ℕ → Type 0
-OnlyCleared image′ image = (k : ℕ) → bitAnd (getD image′ k 0) (getD image k 0) ≡ getD image′ k 0
+-- "no bit goes from 0 to 1": the image keeps its length, and every bit that is set in the new image is set in the old
+pub record OnlyCleared (image′ image : List ℕ) : Type 0 where
+  pub same-length : length image′ ≡ length image
+  pub bits : (k : ℕ) → bitAnd (getD image′ k 0) (getD image k 0) ≡ getD image′ k 0

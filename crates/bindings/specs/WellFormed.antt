@@ -23,6 +23,11 @@ pub record Live (s n : ℕ) (image : List ℕ) (r : ℕ) (x : Record) : Type 0 w
   pub stored : Stored s n image r x
   pub alive : live x ≡ true
 
+-- region r is one of the n, and no record of it is live
+pub record Lifeless (s n : ℕ) (image : List ℕ) (r : ℕ) : Type 0 where
+  pub number : r < n
+  pub none-live : (x : Record) → Live s n image r x → ⊥
+
 -- the walk of a region ends at o, and meets no bad place
 abbrev pub EndsAt : List ℕ → ℕ → Type 0
 EndsAt region o = ending region ≡ Stop.End o

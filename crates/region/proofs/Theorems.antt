@@ -1,6 +1,6 @@
 -- What is known of a region, and of what a write does to it. Every region is any list of bytes, damaged or not, unless a line says more.
--- `None`, `First` (Search.antt): no record of a list is wanted, and the first that is. `Kept` (Same.antt): the bytes of these records are the same
--- in both regions. `placeOf` (Steps.antt): the place of a stop.
+-- Words that the statements use are in specs/Words.antt: `None`, no record of a list is wanted; `First`, the first that is; `Kept`, the bytes of these
+-- records are the same in both regions; `placeOf`, the place of a stop.
 -- Assumes nothing.
 use Prim.Native.Nat.{ℕ, _+_, _-_, _%_, _^_, _≤_, _<_}
 use native.Mathlib.Nat.{add-zero}

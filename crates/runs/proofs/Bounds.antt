@@ -35,7 +35,8 @@ use Rattle.store.specs.Read.{getOf}
 use Rattle.store.specs.Call.{Call, get, append, remove, collect, initialise}
 use Rattle.running.specs.declared.Request.{Request}
 use Rattle.running.specs.Waits.{requestEdit}
-use Rattle.runs.specs.Services.{unlessRefused, edits, collectServices, anewServices, services, most}
+use Rattle.stepwise.specs.Ahead.{most}
+use Rattle.runs.specs.Services.{unlessRefused, edits, collectServices, anewServices, services}
 
 read-bound : (seen : Seen) (key : ℕ) (need : Need) (s : ℕ) (image rs : List ℕ) → length (readFrom seen key need s image rs) ≤ length rs
 unfolding readFrom

@@ -11,6 +11,7 @@ use lib.Dec.{ltb}
 use lib.ListN.{length, drop, getD, drop-of-length-le}
 use lib.Seq.{drop-cons}
 use borrow.Author.Tests.{ltb-true, ltb-false, lt-ltb, le-ltb}
+use Rattle.chip.specs.Every.{Every}
 use Rattle.chip.specs.Geometry.{regionOf, eraseRegion, numbers}
 use Rattle.probe.specs.Probe.{probes}
 use Rattle.probe.proofs.Theorems.{probes-length}
@@ -47,7 +48,7 @@ use Rattle.running.specs.Waits.{waitNext, waitFirst, requestEdit}
 use Rattle.advancing.specs.Advance.{closes, turnedTo, advanceNext, advanceFirst, given, filled}
 use Rattle.runs.specs.Services.{reads, edits, collectServices}
 use Rattle.runs.proofs.Rests.{opAt, own, given-rests, filled-rests}
-use Rattle.runs.proofs.Comes.{Out, out, Comes, over, edit, read}
+use Rattle.runs.proofs.Comes.{Out, out, Serves, Comes, over, edit, read}
 
 -- A live record that a lookup ends at lies in the region that was read last.
 pub data Near (r : ℕ) : Looked → Type 0 where
@@ -62,6 +63,9 @@ order-at key n i h = let l = probes-length key n (omega arith) in rw add-one (dr
 order-end : (key n i : ℕ) → 0 < n → n ≤ i → drop i (probes key n) ≡ []
 order-end key n i z h = let l = probes-length key n z in drop-of-length-le (probes key n) {i = i} (omega arith)
 
+every-cons : {A : Type 0} {P : A → Type 0} {x : A} {xs : List A} → Every P (x ∷ xs) → P x × Every P xs
+every-cons (Every.also h hs) = (h, hs)
+
 -- No region is left to read.
 module _ (key : ℕ) (need : Need) (s : ℕ) (image : List ℕ) (seen : Seen) where
   look-none : lookFrom seen key need s image [] ≡ close seen
@@ -74,7 +78,7 @@ module _ (key : ℕ) (need : Need) (s : ℕ) (image : List ℕ) (seen : Seen) wh
 
 -- A sweep's region, by the verdict on it: the services that are left, and what they come to.
 module _ (s : ℕ) (image : List ℕ) where
-  abbrev servicesOn : ℕ → List ℕ → Verdict → List Request
+  abbrev pub servicesOn : ℕ → List ℕ → Verdict → List Request
   servicesOn r rs Verdict.Stands = collectServices s image rs
   servicesOn r rs Verdict.Erase = Request.Erase r ∷ collectServices s (eraseRegion s r image) rs
   servicesOn r rs (Verdict.Bad f p) = []
@@ -84,7 +88,7 @@ module _ (s : ℕ) (image : List ℕ) where
   doneOn freed r rs Verdict.Erase = collectIn s (eraseRegion s r image) (freed + s) rs
   doneOn freed r rs (Verdict.Bad f p) = refused (refusalOf f) image
 
-  services-one : (r : ℕ) (rs : List ℕ) → collectServices s image (r ∷ rs) ≡ Request.Read r ∷ servicesOn r rs (verdict r (regionOf s image r))
+  pub services-one : (r : ℕ) (rs : List ℕ) → collectServices s image (r ∷ rs) ≡ Request.Read r ∷ servicesOn r rs (verdict r (regionOf s image r))
   unfolding collectServices
   services-one r rs = go (verdict r (regionOf s image r)) refl
     where
@@ -102,9 +106,13 @@ module _ (s : ℕ) (image : List ℕ) where
       go Verdict.Erase e = rw (collectIn, e)
       go (Verdict.Bad f p) e = rw (collectIn, e)
 
-module _ (s n key : ℕ) (lent : Lent) (value : List ℕ) where
+module _ (s n key : ℕ) (lent : Lent) (value : List ℕ) (bytes : List ℕ) where
   abbrev Ends-so : Plan → List ℕ → List ℕ → List Request → Out → Type 0
-  Ends-so = Comes s n key lent value
+  Ends-so = Comes s n key lent value bytes
+
+  -- each edit of a list is what its service does
+  abbrev pub All-serve : List Edit → Type 0
+  All-serve es = Every (Serves s n key lent value bytes) es
 
   abbrev new : List ℕ
   new = own s n key lent value
@@ -122,7 +130,7 @@ module _ (s n key : ℕ) (lent : Lent) (value : List ℕ) where
   none-left : (es : Edits) (next : Then) {image buffer : List ℕ} {rs : List Request} {o : Out} → first es ≡ First.Nothing
       → Ends-so (follows next) image buffer rs o → Ends-so (record { edits = es; next = next }) image buffer rs o
   none-left es next h (over w) = over (ap (λ (f : First). waitFirst key n f next) h ∙ w)
-  none-left es next h (edit e c) = absurd (let z : _≡_ {A = ℕ} 0 1 = cc in omega arith)
+  none-left es next h (edit e d c) = absurd (let z : _≡_ {A = ℕ} 0 1 = cc in omega arith)
   none-left es next {image} {buffer} {rs} {o} h (read {rs = qs} {r = r} w c) =
       let op = opAt s n key lent value in
       let ahead : advanceFirst (op (record { edits = es; next = next })) (regionOf s image r) (first es) ≡ advanceNext (op (follows next)) (regionOf s image r) next =
@@ -138,30 +146,31 @@ module _ (s n key : ℕ) (lent : Lent) (value : List ℕ) where
     abbrev Ahead : Edits → List ℕ → List Edit → Type 0
     Ahead es image xs = Ends-so (record { edits = es; next = next }) image buffer (map (requestEdit s (valueLent lent)) xs ++ rs) o
 
-    does-first : (es : Edits) (image : List ℕ) (f : First) → first es ≡ f → Behind (listed es) image
-        → ((image : List ℕ) → length (listed (rest es)) < length (listed es) → Behind (listed (rest es)) image → Ahead (rest es) image (listed (rest es)))
+    does-first : (es : Edits) (image : List ℕ) (f : First) → first es ≡ f → All-serve (listed es) → Behind (listed es) image
+        → ((image : List ℕ) → length (listed (rest es)) < length (listed es) → All-serve (listed (rest es)) → Behind (listed (rest es)) image → Ahead (rest es) image (listed (rest es)))
         → Ahead es image (listed es)
     unfolding applied
-    does-first es image First.Nothing h c ih =
+    does-first es image First.Nothing h d c ih =
         subst (Ahead es image) (sym (listed-none es h)) (none-left es next h (subst (λ (xs : List Edit). Behind xs image) (listed-none es h) c))
-    does-first es image (First.Do e) h c ih =
+    does-first es image (First.Do e) h d c ih =
+        let (now, later) = every-cons (subst All-serve (listed-some es h) d) in
         subst (Ahead es image) (sym (listed-some es h))
-        (edit h (ih (edited s key new e image) (omega (arith, ap length (listed-some es h))) (subst (λ (xs : List Edit). Behind xs image) (listed-some es h) c)))
+        (edit h now (ih (edited s key new e image) (omega (arith, ap length (listed-some es h))) later (subst (λ (xs : List Edit). Behind xs image) (listed-some es h) c)))
 
-    does-few : (k : ℕ) (es : Edits) (image : List ℕ) → length (listed es) ≤ k → Behind (listed es) image → Ahead es image (listed es)
-    does-few zero es image z c = does-first es image (first es) refl c (λ image h c. absurd (omega arith))
-    does-few (suc k) es image z c = does-first es image (first es) refl c (λ image h c. does-few k (rest es) image (omega arith) c)
+    does-few : (k : ℕ) (es : Edits) (image : List ℕ) → length (listed es) ≤ k → All-serve (listed es) → Behind (listed es) image → Ahead es image (listed es)
+    does-few zero es image z d c = does-first es image (first es) refl d c (λ image h d c. absurd (omega arith))
+    does-few (suc k) es image z d c = does-first es image (first es) refl d c (λ image h d c. does-few k (rest es) image (omega arith) d c)
 
-    pub does : (es : Edits) (image : List ℕ) → Behind (listed es) image → Ahead es image (listed es)
-    does es image c = does-few (length (listed es)) es image (omega arith) c
+    pub does : (es : Edits) (image : List ℕ) → All-serve (listed es) → Behind (listed es) image → Ahead es image (listed es)
+    does es image d c = does-few (length (listed es)) es image (omega arith) d c
 
   -- A plan that ends with an answer is carried out.
-  pub carries : (p : Plan) (image buffer : List ℕ) → p .next ≡ Then.Ends (endOf (p .next))
+  pub carries : (p : Plan) (image buffer : List ℕ) → All-serve (listed (p .edits)) → p .next ≡ Then.Ends (endOf (p .next))
       → Ends-so p image buffer (edits s (valueLent lent) p) (out (carried s key new image p .answer) (carried s key new image p .image) buffer)
-  carries p image buffer h =
+  carries p image buffer d h =
       subst (λ (rs : List Request). Ends-so p image buffer rs (out (endOf (p .next)) (applied s key new (listed (p .edits)) image) buffer))
       (append-nil (edits s (valueLent lent) p))
-      (does (p .next) buffer [] _ (p .edits) image (over (ap (λ (next : Then). waitNext key n next) h)))
+      (does (p .next) buffer [] _ (p .edits) image d (over (ap (λ (next : Then). waitNext key n next) h)))
 
   -- A lookup, where this follows however it ends.
   module _ (aim : Aim) (image buffer : List ℕ) (least : 1 ≤ n) (rs : List Request) (o : Out) where
@@ -264,7 +273,7 @@ module _ (s n key : ℕ) (lent : Lent) (value : List ℕ) where
         let image′ : List ℕ = eraseRegion s i image in
         let rs : List ℕ = numbers (i + 1) d in
         subst (λ (m : ℕ). Ends-so (sweepPlan s n i k Verdict.Erase) image buffer (servicesOn s image i rs Verdict.Erase) (swept image′ m rs)) freed
-        (edit refl (swept-on d (i + 1) (k + 1) image′ (omega arith) ih))
+        (edit refl (λ image. refl) (swept-on d (i + 1) (k + 1) image′ (omega arith) ih))
     judged d i k image h ih (Verdict.Bad f p) = over refl
 
     sweep-turn : (d i k : ℕ) (image : List ℕ) → i + suc d ≡ n → Later d (i + 1) → Sweeps (follows (Then.Sweep i k)) (suc d) i k image

@@ -27,9 +27,9 @@ use Rattle.running.specs.declared.Op.{Op}
 use Rattle.running.specs.declared.Start.{Start}
 use Rattle.running.specs.declared.Request.{Request}
 use Rattle.running.specs.Starts.{startRefusal, startedOr}
-use Rattle.runs.specs.Host.{startOf}
+use Rattle.stepwise.specs.Begins.{startOf, keyOf, lentOf, freshOf}
+use Rattle.stepwise.proofs.Starts.{starts-so}
 use Rattle.runs.specs.Services.{unlessRefused, collectServices, services}
-use Rattle.runs.proofs.Starts.{keyOf, lentOf, freshOf, starts-so}
 use Rattle.runs.proofs.Comes.{Out, out}
 use Rattle.runs.proofs.Calls.{leaves, outOf, first-same}
 
@@ -45,6 +45,11 @@ first-kept image s n key len w = go (geometry image s n) (allowedKey key) (ltb (
     go true false c h = ap (λ (w : Refusal). startsAnew (Refused w)) (let e : w ≡ Refusal.BadKey = cc in e)
     go true true true h = ap (λ (w : Refusal). startsAnew (Refused w)) (let e : w ≡ Refusal.ObjectTooLarge = cc in e)
     go true true false h = absurd (let z : _≡_ {A = ℕ} 0 1 = cc in omega arith)
+
+-- so that initialise starts nothing anew
+pub first-anew : (image : List ℕ) (s n key : ℕ) (w : Refusal) → firstRefusal image s n key 0 ≡ Check.Refused w → startsAnew (getOf image s n key [] .answer) ≡ false
+unfolding getOf hitOf
+first-anew image s n key w e = ap (λ (c : Check). startsAnew (gotBy s image [] (hitAfter image s n key c) .answer)) e ∙ first-kept image s n key 0 w e
 
 -- what a call that is refused comes to: its services, and what it leaves
 pub record Listed : Type 0 where

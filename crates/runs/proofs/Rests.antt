@@ -8,6 +8,7 @@ use mathlib.Core.Bool.{Bool, true, false, cond}
 use mathlib.Core.List.{List, _++_}
 use lib.Dec.{ltb}
 use lib.ListN.{length, take, drop, length-append, length-take, length-drop}
+use lib.Seq.{length-sets}
 use borrow.Author.Tests.{ltb-true, ltb-false}
 use Rattle.chip.specs.Chip.{written}
 use Rattle.chip.specs.Geometry.{Fits, regionOf}
@@ -38,8 +39,9 @@ use Rattle.laying.specs.Lend.{laidFor, laid}
 use Rattle.steps.specs.Step.{fitsHere, stepped, regionAfter, bufferAfter}
 use Rattle.advancing.proofs.Keeps.{advance-gives}
 use Rattle.steps.proofs.Keeps.{next-ruled}
-use Rattle.runs.specs.Host.{Host, imageServed, regionServed, Inside, reads, asks, waited, served}
-use Rattle.runs.proofs.Starts.{inside}
+use Rattle.stepwise.specs.Asked.{Inside, reads, asks}
+use Rattle.stepwise.proofs.Starts.{inside}
+use Rattle.runs.specs.Host.{Host, imageServed, regionServed, regionMeanwhile, waited, served}
 
 -- What is left of the plan, the image, and the two buffers; geometry, key and what is lent never change.
 pub record Conf : Type 0 where
@@ -185,7 +187,7 @@ module _ (s n key : ℕ) (lent : Lent) (value : List ℕ) where
       ∙ ap (λ (m : ℕ). take (sizeOf m e) (drop (startOf e) (laidIn key own e region))) (sym size)
       ∙ laid-there s n key own e region l fit
 
-  fit : (c : Conf) (region : List ℕ) → Good c → length region ≡ s → asks (requestAt c) ≡ true → (y : Reply) → serves y ≡ true
+  pub fit : (c : Conf) (region : List ℕ) → Good c → length region ≡ s → asks (requestAt c) ≡ true → (y : Reply) → serves y ≡ true
       → fitsHere (opAt (c .plan)) y region value (c .buffer) ≡ true
   fit c region g l w y e =
       fits-of (opAt (c .plan)) y (length region) (length value) (length (c .buffer)) (g .kept, l, g .lends, apt s (valueLent lent) (waitOf (opAt (c .plan))) y w e)
@@ -193,10 +195,37 @@ module _ (s n key : ℕ) (lent : Lent) (value : List ℕ) where
   then-long : (c : Conf) → Good c → length (regionThen c) ≡ s
   then-long c g = region-long s n (requestAt c) (c .region) (c .image) (inside (opAt (c .plan)) (g .kept)) (g .long) (g .fits)
 
-  -- One beat: "not ready" leaves all as it was; a service leads on.
-  pub wait-law : (c : Conf) → Good c → asks (requestAt c) ≡ true → waited (at-rest c) ≡ at-rest c
+  -- One beat: "not ready" leaves all as it was, but for the region buffer while a read is under way; a service leads on.
+  abbrev pub meanwhile : List ℕ → Conf → Conf
+  meanwhile bytes c = conf (c .plan) (c .image) (regionMeanwhile (requestAt c) bytes (c .region)) (c .buffer)
+
+  -- where an edit is waited for, the buffer is left alone
+  pub edit-waits : (len : ℕ) (bytes : List ℕ) (e : Edit) (region : List ℕ) → regionMeanwhile (requestEdit s len e) bytes region ≡ region
+  edit-waits len bytes (Edit.Lay r o) region = refl
+  edit-waits len bytes (Edit.Kill how r x) region = refl
+  edit-waits len bytes (Edit.Erase r) region = refl
+
+  meanwhile-long : (bytes : List ℕ) (q : Request) (region : List ℕ) → length (regionMeanwhile q bytes region) ≡ length region
+  meanwhile-long bytes (Request.Read r) region = length-sets region 0 bytes
+  meanwhile-long bytes (Request.Write a e p) region = refl
+  meanwhile-long bytes (Request.Erase r) region = refl
+  meanwhile-long bytes (Request.Answers answer) region = refl
+
+  pub good-meanwhile : (bytes : List ℕ) (c : Conf) → Good c → Good (meanwhile bytes c)
+  good-meanwhile bytes c g = record {
+    kept = g .kept;
+    lends = g .lends;
+    long = meanwhile-long bytes (requestAt c) (c .region) ∙ g .long;
+    fits = g .fits;
+    laid-in = λ e h.
+        let same : regionMeanwhile (requestAt c) bytes (c .region) ≡ c .region =
+        ap (λ (f : First). regionMeanwhile (requestFor s (valueLent lent) (waitFirst key n f (c .plan .next))) bytes (c .region)) h ∙ edit-waits (valueLent lent) bytes e (c .region) in
+        ap (λ (t : List ℕ). take (sizeOf (valueLent lent) e) (drop (startOf e) t)) same ∙ g .laid-in e h;
+  }
+
+  pub wait-law : (bytes : List ℕ) (c : Conf) → Good c → asks (requestAt c) ≡ true → waited bytes (at-rest c) ≡ at-rest (meanwhile bytes c)
   unfolding stepped regionAfter bufferAfter
-  wait-law c g w = rw (fit c (c .region) g (g .long) w Reply.NotReady refl)
+  wait-law bytes c g w = rw (fit c (meanwhile bytes c .region) g (good-meanwhile bytes c g .long) w Reply.NotReady refl)
 
   pub done-law : (c : Conf) → Good c → asks (requestAt c) ≡ true → served s (at-rest c) ≡ at-rest (onward c)
   unfolding stepped regionAfter bufferAfter

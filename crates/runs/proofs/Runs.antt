@@ -3,18 +3,20 @@
 use Prim.Native.Nat.{ℕ, _≤_, _<_}
 use native.Mathlib.Omega.{arith}
 use mathlib.Core.Path.{_≡_, refl, sym, _∙_, ap, subst}
-use mathlib.Core.Bool.{Bool, true}
+use mathlib.Core.Bool.{true}
 use mathlib.Core.List.{List}
 use lib.ListN.{length, take, replicate}
+use lib.Seq.{take-all}
 use borrow.Author.Tests.{eq-eqb}
 use Rattle.chip.specs.Geometry.{Fits}
 use Rattle.plans.specs.declared.Lent.{Lent}
 use Rattle.plans.specs.declared.Then.{Then}
 use Rattle.plans.specs.Writes.{follows}
-use Rattle.store.specs.Call.{Call}
+use Rattle.store.specs.Call.{Call, imageAfter}
 use Rattle.running.specs.declared.Op.{Op}
 use Rattle.running.specs.declared.Start.{Start}
 use Rattle.running.specs.declared.Reply.{Reply}
+use Rattle.running.specs.declared.Request.{Request}
 use Rattle.running.specs.Starts.{started}
 use Rattle.running.specs.Waits.{waitOf}
 use Rattle.running.specs.Ruled.{Ruled}
@@ -22,11 +24,13 @@ use Rattle.rule.specs.Rule.{buffersFit}
 use Rattle.rule.proofs.Calls.{fits-of}
 use Rattle.laying.specs.Lend.{laid}
 use Rattle.steps.specs.Step.{stepped, regionAfter, bufferAfter}
-use Rattle.runs.specs.Host.{Run, asks, begun, drive, readies, startOf, Lends, lends-get, lends-append, lends-remove, lends-collect, lends-initialise}
-use Rattle.runs.specs.Services.{services, Ends}
-use Rattle.runs.proofs.Starts.{keyOf, lentOf, firstOf, freshOf, start-ruled, start-runs}
+use Rattle.stepwise.specs.Asked.{asks}
+use Rattle.stepwise.specs.Begins.{startOf, keyOf, lentOf, firstOf, freshOf}
+use Rattle.stepwise.proofs.Starts.{start-ruled, start-runs}
+use Rattle.runs.specs.Host.{Run, Beat, ready, Same, begun, drive, readies, Lends, lends-get, lends-append, lends-remove, lends-collect, lends-initialise}
+use Rattle.runs.specs.Services.{services, bytesWritten, servicesDone, Ends}
 use Rattle.runs.proofs.Rests.{Conf, conf, opAt, own, at-rest, Good, laid-long, lays}
-use Rattle.runs.proofs.Comes.{unwaited, Stands, goes-on, ended, stands}
+use Rattle.runs.proofs.Comes.{unwaited, same, Comes, image-comes, Stands, goes-on, ended, stands, Rested, all-rest}
 use Rattle.runs.proofs.Calls.{outOf, comes}
 
 lends-fit : (c : Call) (value buffer : List ℕ) → Lends c value buffer → buffersFit (lentOf c) (length value) (length buffer) ≡ true
@@ -73,29 +77,50 @@ module _ (c : Call) (op : Op) (image region value buffer : List ℕ) (s n : ℕ)
   good : Good s n (keyOf c) (lentOf c) value rest-first
   good = good-first s n (keyOf c) (lentOf c) (firstOf c) image region value buffer fresh long (lends-fit c value buffer lends) fits
 
-  pub run-unwaited : (beats : List Bool) → drive s beats (begun op image region value buffer) ≡ drive s (replicate (readies beats) true) (begun op image region value buffer)
-  run-unwaited beats = rw rests (unwaited s n (keyOf c) (lentOf c) value beats rest-first good)
+  pub run-unwaited : (beats : List Beat) → Same (drive s beats (begun op image region value buffer)) (drive s (replicate (readies beats) ready) (begun op image region value buffer))
+  run-unwaited beats = rw rests (unwaited s n (keyOf c) (lentOf c) value (bytesWritten c image s n) beats rest-first good good same)
 
-  run-stands : (beats : List Bool)
-      → Stands (readies beats) (services c image s n) (outOf c image s n buffer) (drive s beats (begun op image region value buffer))
-  run-stands beats =
-      subst (Stands (readies beats) (services c image s n) (outOf c image s n buffer))
-      (ap (drive s (replicate (readies beats) true)) (sym rests) ∙ sym (run-unwaited beats))
-      (stands s n (keyOf c) (lentOf c) value (readies beats) rest-first good refl refl refl (comes c s n value image buffer fits lends (start-runs c s n op starts .fine)))
+  whole : Comes s n (keyOf c) (lentOf c) value (bytesWritten c image s n) (follows (firstOf c)) image buffer (services c image s n) (outOf c image s n buffer)
+  whole = comes c s n value image buffer fits lends (start-runs c s n op starts .fine)
 
-  pub run-ends : (beats : List Bool) → length (services c image s n) ≤ readies beats → Ends c image s n buffer (drive s beats (begun op image region value buffer))
+  run-stands : (beats : List Beat)
+      → Stands s (bytesWritten c image s n) (readies beats) image (services c image s n) (outOf c image s n buffer) (drive s beats (begun op image region value buffer))
+  run-stands beats = rw rests (stands s n (keyOf c) (lentOf c) value (bytesWritten c image s n) beats rest-first good refl refl refl whole)
+
+  -- the image at the end is the one before with all the services done
+  pub image-end : imageAfter c image s n ≡ servicesDone s (bytesWritten c image s n) (services c image s n) image
+  image-end = image-comes s n (keyOf c) (lentOf c) value (bytesWritten c image s n) whole
+
+  pub run-ends : (beats : List Beat) → length (services c image s n) ≤ readies beats → Ends c image s n buffer (drive s beats (begun op image region value buffer))
   run-ends beats h = go (run-stands beats)
     where
-      go : {run : Run} → Stands (readies beats) (services c image s n) (outOf c image s n buffer) run → Ends c image s n buffer run
-      go (goes-on l a d) = absurd (omega arith)
+      go : {run : Run} → Stands s (bytesWritten c image s n) (readies beats) image (services c image s n) (outOf c image s n buffer) run → Ends c image s n buffer run
+      go (goes-on l a d i) = absurd (omega arith)
       go (ended l a i b d) = record { answer = a; image-is = i; buffer-is = b; did = d }
 
-  pub run-goes-on : (beats : List Bool) → readies beats < length (services c image s n)
-      → (asks (drive s beats (begun op image region value buffer) .host .request) ≡ true)
-      × (drive s beats (begun op image region value buffer) .did ≡ take (readies beats) (services c image s n))
+  pub run-goes-on : (beats : List Beat) → readies beats < length (services c image s n)
+      → asks (drive s beats (begun op image region value buffer) .host .request) ≡ true
   run-goes-on beats h = go (run-stands beats)
     where
-      go : {run : Run} → Stands (readies beats) (services c image s n) (outOf c image s n buffer) run
-          → (asks (run .host .request) ≡ true) × (run .did ≡ take (readies beats) (services c image s n))
-      go (goes-on l a d) = (a, d)
+      go : {run : Run} → Stands s (bytesWritten c image s n) (readies beats) image (services c image s n) (outOf c image s n buffer) run → asks (run .host .request) ≡ true
+      go (goes-on l a d i) = a
       go (ended l a i b d) = absurd (omega arith)
+
+  -- after any beats
+  pub run-middle : (beats : List Beat)
+      → (drive s beats (begun op image region value buffer) .did ≡ take (readies beats) (services c image s n))
+      × (drive s beats (begun op image region value buffer) .host .image ≡ servicesDone s (bytesWritten c image s n) (take (readies beats) (services c image s n)) image)
+  run-middle beats = go (run-stands beats)
+    where
+      all : length (services c image s n) ≤ readies beats → take (readies beats) (services c image s n) ≡ services c image s n
+      all h = take-all (readies beats) (services c image s n) h
+
+      go : {run : Run} → Stands s (bytesWritten c image s n) (readies beats) image (services c image s n) (outOf c image s n buffer) run
+          → (run .did ≡ take (readies beats) (services c image s n))
+          × (run .host .image ≡ servicesDone s (bytesWritten c image s n) (take (readies beats) (services c image s n)) image)
+      go (goes-on l a d i) = (d, i)
+      go (ended l a i b d) = (d ∙ sym (all l), i ∙ image-end ∙ ap (λ (qs : List Request). servicesDone s (bytesWritten c image s n) qs image) (sym (all l)))
+
+  -- A host that lends the same buffers each time: value and buffers of a run are never changed in length, and an operation that asks keeps the rule.
+  pub run-rests : (beats : List Beat) → Rested s n (keyOf c) (lentOf c) value (bytesWritten c image s n) (drive s beats (begun op image region value buffer) .host)
+  run-rests beats = rw rests (all-rest s n (keyOf c) (lentOf c) value (bytesWritten c image s n) beats rest-first good)

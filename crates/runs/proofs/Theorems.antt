@@ -1,47 +1,58 @@
 -- What a host may rely on that takes an operation one flash service at a time. `drive` (Host.antt) is the host: it holds the image, lends the
--- same buffers each time, and in each beat is ready or not. `services` (Services.antt) is the list of services of document 01.
+-- same buffers each time, and in each beat has done what it was asked for or is not ready. `services` (Services.antt) is the list of services of
+-- document 01. What one step does, and what any host can count on, is in stepwise.
 -- The arguments: Rests.antt (one service), Comes.antt (all of them, and waiting), Plans.antt and Calls.antt (the services of each operation),
--- Runs.antt, Refuses.antt, Bounds.antt, Starts.antt (the rule), Exactly.antt (refusals 11 and 12).
+-- Runs.antt, Refuses.antt, Bounds.antt, Erases.antt (which regions are erased), Lists.antt (the lists of services), Broken.antt (operations that are
+-- broken off).
 -- Assumes nothing.
 use Prim.Native.Nat.{ℕ, _+_, _*_, _^_, _≤_, _<_}
 use native.Mathlib.Nat.{le-trans}
-use mathlib.Core.Path.{_≡_, refl, sym, _∙_, ap, subst}
-use mathlib.Core.Bool.{Bool, true, false, cond}
-use mathlib.Core.List.{List, [], _++_}
-use mathlib.Core.Logic.{inl, _↔_}
+use native.Mathlib.Omega.{arith}
+use mathlib.Core.Path.{_≡_, refl, _∙_, ap}
+use mathlib.Core.Bool.{true}
+use mathlib.Core.List.{List, [], _∷_, _++_, map}
+use mathlib.Core.Logic.{inl}
 use lib.ListN.{length, take, drop, replicate}
-use Rattle.chip.specs.Chip.{Bytes}
-use Rattle.chip.specs.Geometry.{Fits}
+use Rattle.chip.specs.Chip.{Bytes, erased}
+use Rattle.chip.specs.Geometry.{Fits, numbers}
+use Rattle.probe.specs.Probe.{probes}
+use Rattle.format.specs.declared.Record.{Record}
+use Rattle.format.specs.declared.Fault.{Fault}
 use Rattle.format.specs.declared.Removal.{Removal}
+use Rattle.format.specs.Layout.{recordLength, killPlace, killLength}
+use Rattle.region.specs.declared.Event.{Event}
 use Rattle.refusals.specs.declared.Refusal.{Refusal}
-use Rattle.plans.specs.declared.Answer.the-variants.{Refused, Complete, Written}
-use Rattle.plans.specs.Writes.{refuses}
-use Rattle.store.specs.Read.{Got}
-use Rattle.store.specs.Write.{appendOf}
-use Rattle.store.specs.Call.{Call, answerOf, imageAfter}
-use Rattle.bindings.specs.WellFormed.{WellFormed}
-use Rattle.bindings.specs.Calls.{Typed, imageAfterAll, SparesAll}
-use Rattle.bindings.proofs.Lasting.{all-hold}
-use Rattle.bindings.proofs.Theorems.{stays-well-formed, append-adds}
-use Rattle.bindings.proofs.Theorems as Bindings
-use Rattle.running.specs.declared.Op.{Op}
+use Rattle.plans.specs.declared.Answer.the-variants.{Refused, Complete, Written, Freed}
+use Rattle.plans.specs.Answers.{refusal}
+use Rattle.store.specs.Read.{Got, getOf}
+use Rattle.store.specs.Write.{appendOf, initialiseOf}
+use Rattle.store.specs.Call.{Call, get, append, remove, collect, initialise, answerOf, imageAfter}
+use Rattle.pinned.specs.When.{Reads, FirstBad}
+use Rattle.pinned.specs.Words.{Decides, FirstRoom}
+use Rattle.pinned.proofs.Answers.{reads-if}
+use Rattle.bindings.specs.WellFormed.{WellFormed, Bound}
+use Rattle.bindings.specs.Calls.{Typed, Spares, OnlyCleared}
+use Rattle.bindings.proofs.Bits.{same-cleared}
+use Rattle.bindings.proofs.Theorems.{stays-well-formed, append-adds, initialise-makes-well-formed, get-finds, write-only-clears}
 use Rattle.running.specs.declared.Start.{Start}
 use Rattle.running.specs.declared.Reply.{Reply}
 use Rattle.running.specs.declared.Request.{Request}
-use Rattle.running.specs.Starts.{getStarted, appendStarted, removeStarted, collectStarted, initialiseStarted}
-use Rattle.running.specs.Waits.{withPlan, requestOf}
-use Rattle.rule.specs.Rule.{rule}
-use Rattle.rule.proofs.Calls.{ruled, is-ruled, fits-ruled}
-use Rattle.steps.specs.declared.Stepped.{Stepped}
-use Rattle.steps.specs.Step.{nextOp, fitsHere, stepped, regionAfter, bufferAfter}
-use Rattle.steps.proofs.Keeps.{next-ruled}
-use Rattle.runs.specs.Host.{Inside, asks, requestRefusal, begun, drive, readies, startOf, Lends, lends-get, bufferOf}
-use Rattle.runs.specs.Services.{services, most, Ends}
-use Rattle.runs.proofs.Starts.{start-ruled, inside}
-use Rattle.runs.proofs.Runs.{run-unwaited, run-ends, run-goes-on}
+use Rattle.stepwise.specs.Asked.{asks}
+use Rattle.stepwise.specs.Begins.{startOf, freshOf}
+use Rattle.stepwise.specs.Ahead.{most}
+use Rattle.stepwise.proofs.Begins.{runs-else}
+use Rattle.runs.specs.Host.{Run, Beat, ready, Same, serviceDone, told, begun, drive, readies, Lends, lends-get, bufferOf}
+use Rattle.runs.specs.Services.{services, bytesWritten, servicesDone, erasesIn, erasesOf, UpTo, Sweeps, Ends}
+use Rattle.runs.specs.Events.{Event as Happening, imageAfterEvents, SparesThrough, Left, Found}
+use Rattle.runs.proofs.Runs.{run-unwaited, run-ends, run-goes-on, run-middle, run-rests, image-end}
 use Rattle.runs.proofs.Refuses.{Listed, refused-so}
 use Rattle.runs.proofs.Bounds.{bound, most-any}
-use Rattle.runs.proofs.Exactly.{still-there, step-refuses, is-bad-call, is-flash-failed}
+use Rattle.runs.proofs.Erases.{call-writes}
+use Rattle.runs.proofs.Broken.{run-left, left-well, left-bound, events-hold}
+use Rattle.runs.proofs.Lists as Lists
+use Rattle.runs.proofs.Failing.{failing}
+
+-- Services.
 
 -- "a lookup N at most, the longest 3N+1": get n, append and the removals n + 1, "collect [..] 2N at most", "initialise [..] 3N+1 at most".
 pub at-most : (c : Call) (image : List ℕ) (s n : ℕ) → length (services c image s n) ≤ most c n
@@ -50,58 +61,55 @@ at-most = bound
 pub any-at-most : (c : Call) (image : List ℕ) (s n : ℕ) → length (services c image s n) ≤ 3 * n + 1
 any-at-most c image s n = le-trans (bound c image s n) (most-any c n)
 
--- A call whose arguments are allowed, as its start says; an image of the chip's size; a region buffer of s bytes with anything in it; append's
--- value and get's buffer are those of the call. That the image is well-formed, which the demand grants, is not needed.
-module _ (c : Call) (op : Op) (image region value buffer : List ℕ) (s n : ℕ)
-    (starts : startOf c s n ≡ Start.Runs op) (fits : Fits image s n) (long : length region ≡ s) (lends : Lends c value buffer) where
+-- A call whose arguments are allowed, on an image of the chip's size; a region buffer of s bytes with anything in it; append's value and get's
+-- buffer are those of the call. That the image is well-formed, which the demand grants, is not needed.
+module _ (c : Call) (image region value buffer : List ℕ) (s n : ℕ) (reads : Reads image s n c) (long : length region ≡ s) (lends : Lends c value buffer) where
+  -- Its start hands out this running operation, and the run begins with it.
+  pub starts : startOf c s n ≡ Start.Runs (freshOf c s n)
+  starts = runs-else c s n (record { shape = reads .fits .shape; key-good = reads .key-good; not-large = reads .not-large })
+
+  abbrev run : List Beat → Run
+  run beats = drive s beats (begun (freshOf c s n) image region value buffer)
+
   -- Demand 3: "an operation taken one flash service at a time, with any number of "not ready" replies between, ends after exactly the services
-  -- listed in 01 [..], with the answer and image of the one-call form".
-  pub one-service-at-a-time : (beats : List Bool) → length (services c image s n) ≤ readies beats → Ends c image s n buffer (drive s beats (begun op image region value buffer))
-  one-service-at-a-time = run-ends c op image region value buffer s n starts fits long lends
+  -- listed in 01 [..], with the answer and image of the one-call form". While it is not ready the host may be half through a read.
+  pub one-service-at-a-time : (beats : List Beat) → length (services c image s n) ≤ readies beats → Ends c image s n buffer (run beats)
+  one-service-at-a-time = run-ends c (freshOf c s n) image region value buffer s n starts (reads .fits) long lends
 
   -- "the longest 3N+1"
-  pub ends-in-time : (beats : List Bool) → 3 * n + 1 ≤ readies beats → Ends c image s n buffer (drive s beats (begun op image region value buffer))
+  pub ends-in-time : (beats : List Beat) → 3 * n + 1 ≤ readies beats → Ends c image s n buffer (run beats)
   ends-in-time beats h = one-service-at-a-time beats (le-trans (any-at-most c image s n) h)
 
-  -- "Not ready" replies change nothing: a run is that of a host that is ready as often and never waits.
-  pub waiting-is-nothing : (beats : List Bool) → drive s beats (begun op image region value buffer) ≡ drive s (replicate (readies beats) true) (begun op image region value buffer)
-  waiting-is-nothing = run-unwaited c op image region value buffer s n starts fits long lends
+  -- "Not ready" replies change nothing: a run is that of a host that is ready as often and never waits, but for what a read that is under way has
+  -- brought into the region buffer.
+  pub waiting-is-nothing : (beats : List Beat) → Same (run beats) (run (replicate (readies beats) ready))
+  waiting-is-nothing = run-unwaited c (freshOf c s n) image region value buffer s n starts (reads .fits) long lends
 
-  -- It does not end before: with fewer services done it asks for one, and has done the first ones of the list.
-  pub not-before : (beats : List Bool) → readies beats < length (services c image s n)
-      → (asks (drive s beats (begun op image region value buffer) .host .request) ≡ true)
-      × (drive s beats (begun op image region value buffer) .did ≡ take (readies beats) (services c image s n))
-  not-before = run-goes-on c op image region value buffer s n starts fits long lends
+  -- It does not end before: with fewer services done it asks for one.
+  pub not-before : (beats : List Beat) → readies beats < length (services c image s n) → asks (run beats .host .request) ≡ true
+  not-before = run-goes-on c (freshOf c s n) image region value buffer s n starts (reads .fits) long lends
 
--- "So a stored record is found within N region reads, into a buffer long enough, until its own key is removed or initialise erases the chip":
--- for any list of calls after its append, a get of it, taken one service at a time, with any waiting between.
-pub stored-is-found : {s n : ℕ} {image : List ℕ} → WellFormed s n image → (key : ℕ) (value : List ℕ) → key < 2 ^ 64 → Bytes value
-    → appendOf image s n key value .answer ≡ Written
-    → (calls : List Call) → SparesAll s n key (appendOf image s n key value .image) calls
-    → let later = imageAfterAll s n calls (appendOf image s n key value .image) in
-    (buffer region nothing : List ℕ) → length value ≤ length buffer → length region ≡ s
-    → (op : Op) → getStarted s n key (length buffer) ≡ Start.Runs op
-    → (beats : List Bool) → n ≤ readies beats
-    → let run = drive s beats (begun op later region nothing buffer) in
-    (run .host .request ≡ Request.Answers (Complete (length value)))
-    × (run .host .buffer ≡ value ++ drop (length value) buffer)
-    × (run .host .image ≡ later)
-    × (run .did ≡ services (Call.get key buffer) later s n)
-    × (length (run .did) ≤ n)
-stored-is-found {s} {n} {image} w key value k v h calls p buffer region nothing l long op starts beats ready =
-    let first = appendOf image s n key value .image in
-    let later = imageAfterAll s n calls first in
-    let bound = append-adds w key value k v h key value .1 (inl (refl, refl)) in
-    let (well, _) = all-hold s n key value calls first (stays-well-formed w (Call.append key value) (Typed.typed-append k v)) bound p in
-    let (found, _) = Bindings.stored-is-found w key value k v h calls p buffer l in
-    let few = at-most (Call.get key buffer) later s n in
-    let ends = one-service-at-a-time (Call.get key buffer) op later region nothing buffer s n starts (well .fits) long lends-get beats (le-trans few ready) in (
-      ends .answer ∙ ap (λ (g : Got). Request.Answers (g .answer)) found,
-      ends .buffer-is ∙ ap (λ (g : Got). g .buffer) found,
-      ends .image-is,
-      ends .did,
-      subst (λ (asked : List Request). length asked ≤ n) (sym (ends .did)) few,
-    )
+  -- At every moment: the services done are the first ones of the list, as many as the host was ready, and the image is the one before with these done.
+  pub at-every-moment : (beats : List Beat)
+      → (run beats .did ≡ take (readies beats) (services c image s n))
+      × (run beats .host .image ≡ servicesDone s (bytesWritten c image s n) (take (readies beats) (services c image s n)) image)
+  at-every-moment = run-middle c (freshOf c s n) image region value buffer s n starts (reads .fits) long lends
+
+  -- So the one-call form's image is the one before with all the services done.
+  pub image-after-all : imageAfter c image s n ≡ servicesDone s (bytesWritten c image s n) (services c image s n) image
+  image-after-all = image-end c (freshOf c s n) image region value buffer s n starts (reads .fits) long lends
+
+  -- A failed service in the middle of a run ends it with FlashFailed, never with BadCall, and alters neither image nor buffers.
+  pub fails-in-the-middle : (beats : List Beat) → asks (run beats .host .request) ≡ true
+      → let before = run beats .host in
+      let after = told (before .op) Reply.Failed (before .image) (before .region) (before .value) (before .buffer) in
+      (after .request ≡ Request.Answers (Refused Refusal.FlashFailed)) × (after .image ≡ before .image) × (after .region ≡ before .region) × (after .buffer ≡ before .buffer)
+  fails-in-the-middle beats w = failing (run-rests c (freshOf c s n) image region value buffer s n starts (reads .fits) long lends beats) w
+
+  -- Broken off after any beats, by a host that goes no further or by a service that failed and was not done: so many of the call's erases are
+  -- done, or all that the call does. Of a get, an append and a removal, which erase nothing, the image is as it was, or as the one-call form leaves it.
+  pub broken-off : (beats : List Beat) → Left c image s n (run beats .host .image)
+  broken-off = run-left c (freshOf c s n) image region value buffer s n starts (reads .fits) long lends
 
 -- A start that refuses: "Order: 1, 2, 3, in the stepped form at the start, which then runs nothing". The one-call form gives the same answer and
 -- changes nothing either.
@@ -111,105 +119,119 @@ start-refuses c image buffer s n w size h =
     let e = refused-so image s n size w c buffer h in
     (ap (λ (o : Listed). o .leaving .answer) e, ap (λ (o : Listed). o .leaving .image) e, ap (λ (o : Listed). o .leaving .buffer) e, ap (λ (o : Listed). o .did) e)
 
--- "the written rule which every one handed back by a start or a step keeps"
-pub start-keeps : (c : Call) (s n : ℕ) (op : Op) → startOf c s n ≡ Start.Runs op → rule op ≡ true
-start-keeps c s n op h = is-ruled op (start-ruled c s n h)
+-- "Outside an erase no bit goes from 0 to 1."
 
-pub next-keeps : (op : Op) (y : Reply) (region value buffer : List ℕ) → fitsHere op y region value buffer ≡ true → rule (nextOp op y region) ≡ true
-next-keeps op y region value buffer h =
-    let (k, long, _, _) = fits-ruled op y (length region) (length value) (length buffer) h in
-    is-ruled _ (next-ruled op y region k long)
+-- No service but an erase raises a bit, whatever bytes are written.
+pub service-only-clears : (s : ℕ) (bytes : List ℕ) (q : Request) (image : List ℕ) → ((r : ℕ) → q ≡ Request.Erase r → ⊥) → OnlyCleared (serviceDone s bytes q image) image
+service-only-clears s bytes (Request.Read r) image h = same-cleared image
+service-only-clears s bytes (Request.Write a e p) image h = write-only-clears image p bytes
+service-only-clears s bytes (Request.Erase r) image h = absurd (h r refl)
+service-only-clears s bytes (Request.Answers answer) image h = same-cleared image
 
-pub step-keeps : (op : Op) (y : Reply) (region value buffer : List ℕ) → rule op ≡ true → rule (stepped op y region value buffer .op) ≡ true
-unfolding stepped
-step-keeps op y region value buffer k = go (fitsHere op y region value buffer) refl
+-- Which operations ask for an erase, and of which regions, in this order: collect of the dead ones before the first bad place, initialise of all
+-- in number order where it starts anew, no other of any.
+pub erases-are : (c : Call) (image : List ℕ) (s n : ℕ) → erasesIn (services c image s n) ≡ erasesOf c image s n
+erases-are c image s n = call-writes c image s n .which
+
+-- The lists of services.
+
+-- "get, reads in probe order up to the deciding region", answered or refused.
+pub get-services : (key : ℕ) (buffer image : List ℕ) (s n : ℕ) → Reads image s n (get key buffer)
+    → (rs : List ℕ) × UpTo image s key (probes key n) rs × (services (get key buffer) image s n ≡ map Request.Read rs)
+get-services key buffer image s n h = Lists.get-list image s n key buffer h
+
+-- "append, all N reads, then one write": where it answers Written. The write goes to the first region in probe order with room.
+pub append-services : (key : ℕ) (value image : List ℕ) (s n : ℕ) → answerOf (append key value) image s n ≡ Written
+    → (r : ℕ) × (o : ℕ) × FirstRoom image s (recordLength (length value)) (probes key n) r o
+    × (services (append key value) image s n ≡ map Request.Read (probes key n) ++ Request.Write o (o + recordLength (length value)) (r * s + o) ∷ [])
+append-services key value image s n h = Lists.append-list image s n key value h
+
+-- "A refusal ends the list where it is known": one that is refused after reading has read up to the deciding region, and writes nothing.
+pub append-refused-services : (key : ℕ) (value image : List ℕ) (s n : ℕ) → Reads image s n (append key value) → 1 ≤ refusal (answerOf (append key value) image s n)
+    → (rs : List ℕ) × UpTo image s key (probes key n) rs × (services (append key value) image s n ≡ map Request.Read rs)
+append-refused-services key value image s n r h = Lists.append-no-list image s n key value r h
+
+-- "invalidate and zeroise, get's reads, then one write": over the record that decided.
+pub removal-services : (how : Removal) (key : ℕ) (image : List ℕ) (s n : ℕ) → answerOf (remove how key) image s n ≡ Written
+    → (r : ℕ) × (x : Record) × (d : Decides image s key (probes key n) r (Event.Live x))
+    × (services (remove how key) image s n ≡ map Request.Read (d .before ++ r ∷ []) ++ Request.Write (killPlace how x) (killPlace how x + killLength how x) (r * s + killPlace how x) ∷ [])
+removal-services how key image s n h = Lists.remove-list image s n key how h
+
+pub removal-refused-services : (how : Removal) (key : ℕ) (image : List ℕ) (s n : ℕ) → Reads image s n (remove how key) → 1 ≤ refusal (answerOf (remove how key) image s n)
+    → (rs : List ℕ) × UpTo image s key (probes key n) rs × (services (remove how key) image s n ≡ map Request.Read rs)
+removal-refused-services how key image s n r h = Lists.remove-no-list image s n key how r h
+
+-- "collect, for each region a read and, where due, an erase".
+pub collect-services : (image : List ℕ) (s n bytes : ℕ) → answerOf collect image s n ≡ Freed bytes → Sweeps s image (numbers 0 n) (services collect image s n)
+collect-services image s n bytes h = Lists.collect-list image s n bytes h
+
+-- With a bad place, the list ends with the read of its region.
+pub collect-refused-services : {f : Fault} (image : List ℕ) (s n : ℕ) → Fits image s n → (b : FirstBad image s n f)
+    → (qs : List Request) × Sweeps s image (numbers 0 (b .region)) qs × (services collect image s n ≡ qs ++ Request.Read (b .region) ∷ [])
+collect-refused-services image s n fits b = Lists.collect-bad-list image s n fits b
+
+-- "initialise, get's reads and, if it must erase, N erases in number order and append's services".
+pub initialise-services : (key : ℕ) (image : List ℕ) (s n len : ℕ) → answerOf (initialise key) image s n ≡ Complete len
+    → services (initialise key) image s n ≡ services (get key []) image s n
+initialise-services key image s n len h = Lists.initialise-list image s n key len h
+
+pub initialise-anew-services : (key : ℕ) (image : List ℕ) (s n : ℕ) → answerOf (initialise key) image s n ≡ Written
+    → services (initialise key) image s n ≡ services (get key []) image s n ++ (map Request.Erase (numbers 0 n) ++ services (append key []) (erased (n * s)) s n)
+initialise-anew-services key image s n h = Lists.initialise-anew-list image s n key h
+
+-- Operations that were not finished.
+
+-- On a well-formed image one that is broken off leaves a well-formed image, and every binding that the whole operation would have spared.
+pub broken-off-keeps : {s n : ℕ} {image : List ℕ} → WellFormed s n image → (c : Call) → Typed c → (image′ : List ℕ) → Left c image s n image′
+    → WellFormed s n image′ × ((key : ℕ) (value : List ℕ) → Spares s n key image c → Bound s n image key value → Bound s n image′ key value)
+broken-off-keeps w c t image′ l = (left-well w c t l, λ key value p b. left-bound w c t key p value b l)
+
+-- "So a stored record is found within N region reads, into a buffer long enough, until its own key is removed or initialise erases the chip": any
+-- bound record, after any list of calls in one go and of operations taken one service at a time, finished or broken off. (What a write leaves that
+-- failed and wrote a part is not said here.)
+pub bound-is-found : {s n : ℕ} {image : List ℕ} → WellFormed s n image → (key : ℕ) (value : List ℕ) → Bound s n image key value
+    → (events : List Happening) → SparesThrough s n key image events
+    → (buffer region lent : List ℕ) → length value ≤ length buffer → length region ≡ s
+    → Found s n (imageAfterEvents s n events image) key value buffer region lent
+bound-is-found {s} {n} {image} w key value b events p buffer region lent l long = record {
+  in-one-go = found;
+  starts = starts (get key buffer) later region lent buffer s n reads long lends-get;
+  few = few;
+  answers = λ beats h. ends beats h .answer ∙ ap (λ (g : Got). Request.Answers (g .answer)) found;
+  fills = λ beats h. ends beats h .buffer-is ∙ ap (λ (g : Got). g .buffer) found;
+  leaves = λ beats h. ends beats h .image-is;
+  serves = λ beats h. ends beats h .did;
+}
   where
-    go : (t : Bool) → fitsHere op y region value buffer ≡ t
-        → rule (cond {A = Stepped} t (record { op = nextOp op y region; request = requestOf (nextOp op y region) }) (record { op = op; request = Request.Answers (Refused Refusal.BadCall) }) .op) ≡ true
-    go true h = next-keeps op y region value buffer h
-    go false h = k
+    later : List ℕ
+    later = imageAfterEvents s n events image
 
--- What an operation that keeps the rule asks for lies in the chip, whatever region buffers it was lent.
-pub asks-inside : (op : Op) → rule op ≡ true → Inside (op .s) (op .n) (requestOf op)
-asks-inside op k = inside op (ruled op k)
+    found : getOf later s n key buffer ≡ record { answer = Complete (length value); buffer = value ++ drop (length value) buffer }
+    found = let (last, held) = events-hold s n key value events image w b p in get-finds last key value buffer held l
 
--- "BadCall leaves the running operation as it was", and all buffers.
-pub bad-call : (op : Op) (y : Reply) (region value buffer : List ℕ) → fitsHere op y region value buffer ≡ false
-    → (stepped op y region value buffer ≡ record { op = op; request = Request.Answers (Refused Refusal.BadCall) })
-    × (regionAfter op y region value buffer ≡ region)
-    × (bufferAfter op y region value buffer ≡ buffer)
-unfolding stepped regionAfter bufferAfter
-bad-call op y region value buffer h = (rw h, rw h, rw h)
+    reads : Reads later s n (get key buffer)
+    reads = reads-if later s n (get key buffer) (ap (λ (g : Got). refusal (g .answer)) found)
 
--- ""Not ready" repeats the request and alters nothing."
-pub not-ready : (op : Op) (region value buffer : List ℕ) → fitsHere op Reply.NotReady region value buffer ≡ true
-    → (stepped op Reply.NotReady region value buffer ≡ record { op = op; request = requestOf op })
-    × (regionAfter op Reply.NotReady region value buffer ≡ region)
-    × (bufferAfter op Reply.NotReady region value buffer ≡ buffer)
-unfolding stepped regionAfter bufferAfter
-not-ready op region value buffer h =
-    let same : nextOp op Reply.NotReady region ≡ op = still-there op (fits-ruled op Reply.NotReady (length region) (length value) (length buffer) h .3) in
-    (rw h (λ i. record { op = same i; request = requestOf (same i) }), rw h, rw h)
+    few : length (services (get key buffer) later s n) ≤ n
+    few = at-most (get key buffer) later s n
 
--- "FlashFailed ends the operation." "A refusal alters no byte of image or buffer".
-pub flash-failed : (op : Op) (region value buffer : List ℕ) → fitsHere op Reply.Failed region value buffer ≡ true
-    → (stepped op Reply.Failed region value buffer ≡ record { op = withPlan op (refuses Refusal.FlashFailed); request = Request.Answers (Refused Refusal.FlashFailed) })
-    × (regionAfter op Reply.Failed region value buffer ≡ region)
-    × (bufferAfter op Reply.Failed region value buffer ≡ buffer)
-unfolding stepped regionAfter bufferAfter
-flash-failed op region value buffer h = (rw h, rw h, rw h)
+    ends : (beats : List Beat) → n ≤ readies beats → Ends (get key buffer) later s n buffer (drive s beats (begun (freshOf (get key buffer) s n) later region lent buffer))
+    ends beats h = one-service-at-a-time (get key buffer) later region lent buffer s n reads long lends-get beats (le-trans few h)
 
--- "Exactly when".
+-- A record that append has written is bound; so is the main key's own, of the empty value, after an initialise that wrote it.
+pub stored-is-found : {s n : ℕ} {image : List ℕ} → WellFormed s n image → (key : ℕ) (value : List ℕ) → key < 2 ^ 64 → Bytes value
+    → appendOf image s n key value .answer ≡ Written
+    → (events : List Happening) → SparesThrough s n key (appendOf image s n key value .image) events
+    → (buffer region lent : List ℕ) → length value ≤ length buffer → length region ≡ s
+    → Found s n (imageAfterEvents s n events (appendOf image s n key value .image)) key value buffer region lent
+stored-is-found w key value k v h events p buffer region lent l long =
+    let bound = append-adds w key value k v h key value .1 (inl (refl, refl)) in
+    bound-is-found (stays-well-formed w (append key value) (Typed.typed-append k v)) key value bound events p buffer region lent l long
 
--- 11 BadCall, exactly when "region buffer not S bytes, append's value or get's buffer not of the length named at the start, "begin" at any but the
--- first step or another reply at the first, a step after the end, or a running operation that breaks the written rule".
-pub bad-call-exactly-when : (op : Op) (y : Reply) (region value buffer : List ℕ)
-    → (requestRefusal (stepped op y region value buffer .request) ≡ 11) ↔ (fitsHere op y region value buffer ≡ false)
-bad-call-exactly-when op y region value buffer = (
-  is-bad-call op y region value buffer (step-refuses op y region value buffer),
-  λ h. ap (λ (t : Stepped). requestRefusal (t .request)) (bad-call op y region value buffer h .0),
-)
-
--- 12 FlashFailed, exactly when "the host reports a failed service"; "11 before 12": at a call that fits.
-pub flash-failed-exactly-when : (op : Op) (y : Reply) (region value buffer : List ℕ)
-    → (requestRefusal (stepped op y region value buffer .request) ≡ 12) ↔ ((fitsHere op y region value buffer ≡ true) × (y ≡ Reply.Failed))
-flash-failed-exactly-when op y region value buffer = (
-  is-flash-failed op y region value buffer (step-refuses op y region value buffer),
-  λ (h, e). ap (λ (z : Reply). requestRefusal (stepped op z region value buffer .request)) e
-      ∙ ap (λ (t : Stepped). requestRefusal (t .request)) (flash-failed op region value buffer (subst (λ (z : Reply). fitsHere op z region value buffer ≡ true) e h) .0),
-)
-
--- "Show that any pair of results allowed for one input is identical": a step's result, region buffer and buffer at exit, and what a start gives.
-
--- What step's contract allows.
-abbrev StepAllows : Op → Reply → List ℕ → List ℕ → List ℕ → Stepped → List ℕ → List ℕ → Type 0
-StepAllows op y region value buffer t r b =
-    (t ≡ stepped op y region value buffer) × (r ≡ regionAfter op y region value buffer) × (b ≡ bufferAfter op y region value buffer)
-
-pub step-only-one : (op : Op) (y : Reply) (region value buffer : List ℕ) {t t′ : Stepped} {r r′ b b′ : List ℕ}
-    → StepAllows op y region value buffer t r b
-    → StepAllows op y region value buffer t′ r′ b′
-    → (t ≡ t′) × (r ≡ r′) × (b ≡ b′)
-step-only-one op y region value buffer (p, q, u) (p′, q′, u′) = (p ∙ sym p′, q ∙ sym q′, u ∙ sym u′)
-
-only-one : {start a a′ : Start} → a ≡ start → a′ ≡ start → a ≡ a′
-only-one p p′ = p ∙ sym p′
-
-module _ (s n : ℕ) {a a′ : Start} where
-  pub start-get-only-one : (key capacity : ℕ) → a ≡ getStarted s n key capacity → a′ ≡ getStarted s n key capacity → a ≡ a′
-  start-get-only-one key capacity = only-one
-
-  pub start-append-only-one : (key len : ℕ) → a ≡ appendStarted s n key len → a′ ≡ appendStarted s n key len → a ≡ a′
-  start-append-only-one key len = only-one
-
-  pub start-invalidate-only-one : (key : ℕ) → a ≡ removeStarted Removal.Invalidate s n key → a′ ≡ removeStarted Removal.Invalidate s n key → a ≡ a′
-  start-invalidate-only-one key = only-one
-
-  pub start-zeroise-only-one : (key : ℕ) → a ≡ removeStarted Removal.Zeroise s n key → a′ ≡ removeStarted Removal.Zeroise s n key → a ≡ a′
-  start-zeroise-only-one key = only-one
-
-  pub start-collect-only-one : a ≡ collectStarted s n → a′ ≡ collectStarted s n → a ≡ a′
-  start-collect-only-one = only-one
-
-  pub start-initialise-only-one : (key : ℕ) → a ≡ initialiseStarted s n key → a′ ≡ initialiseStarted s n key → a ≡ a′
-  start-initialise-only-one key = only-one
+pub initialised-is-found : (image : List ℕ) (s n key : ℕ) → key < 2 ^ 64 → initialiseOf image s n key .answer ≡ Written
+    → (events : List Happening) → SparesThrough s n key (initialiseOf image s n key .image) events
+    → (buffer region lent : List ℕ) → length region ≡ s
+    → Found s n (imageAfterEvents s n events (initialiseOf image s n key .image)) key [] buffer region lent
+initialised-is-found image s n key k h events p buffer region lent long =
+    let (w, bound) = initialise-makes-well-formed image s n key k h in
+    bound-is-found w key [] (bound key [] .1 (refl, refl)) events p buffer region lent (omega arith) long

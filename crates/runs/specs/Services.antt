@@ -1,16 +1,22 @@
 -- The services of every call on an image, by the list of document 01 and over the definitions of the one-call form:
 -- "Services, in this order and no others". "A refusal ends the list where it is known."
-use Prim.Native.Nat.{ℕ, _+_, _*_}
+use Prim.Native.Nat.{ℕ, _*_}
 use mathlib.Core.Path.{_≡_}
 use mathlib.Core.Bool.{cond}
-use mathlib.Core.List.{List, [], _∷_, _++_, map}
+use mathlib.Core.List.{List, [], _∷_, _++_, map, List·Memᴰ}
 use lib.ListN.{length}
 use Rattle.chip.specs.Chip.{erased}
 use Rattle.chip.specs.Geometry.{geometry, regionOf, eraseRegion, numbers}
 use Rattle.probe.specs.Probe.{probes}
+use Rattle.format.specs.declared.Record.{Record}
+use Rattle.format.specs.declared.Fault.{Fault}
+use Rattle.format.specs.declared.Removal.{Removal}
+use Rattle.format.specs.Layout.{recordBytes, killBytes}
+use Rattle.region.specs.declared.Event.{Event}
 use Rattle.refusals.specs.declared.Check.{Check}
 use Rattle.refusals.specs.Refusals.{firstRefusal}
-use Rattle.lookup.specs.Turns.{lookupIn, regionsRead}
+use Rattle.lookup.specs.declared.Hit.{Hit}
+use Rattle.lookup.specs.Turns.{lookupIn, regionsRead, hitOf}
 use Rattle.plans.specs.declared.Aim.{Aim}
 use Rattle.plans.specs.declared.Plan.{Plan}
 use Rattle.sweeping.specs.declared.Verdict.{Verdict}
@@ -20,9 +26,12 @@ use Rattle.planning.specs.Planning.{needOf, anew, plan}
 use Rattle.sweeping.specs.Sweeps.{verdict}
 use Rattle.store.specs.Read.{getOf}
 use Rattle.store.specs.Call.{Call, get, append, remove, collect, initialise, answerOf, imageAfter}
+use Rattle.lookup.specs.Words.{Passed}
+use Rattle.pinned.specs.Words.{Decides}
+use Rattle.pinned.specs.Left.{Dead, erasedBy}
 use Rattle.running.specs.declared.Request.{Request}
 use Rattle.running.specs.Waits.{requestEdit}
-use Rattle.runs.specs.Host.{Run, bufferOf}
+use Rattle.runs.specs.Host.{Run, serviceDone, bufferOf}
 
 -- refusals 1, 2 and 3 are known before anything is read
 abbrev pub unlessRefused : Check → List Request → List Request
@@ -63,13 +72,55 @@ services (initialise key) image s n =
     unlessRefused (firstRefusal image s n key 0)
     (reads Aim.Initialise 0 key image s n ++ cond (startsAnew (getOf image s n key [] .answer)) (anewServices key s n) [])
 
--- how many they are at most: "2N at most", "3N+1 at most"
-abbrev pub most : Call → ℕ → ℕ
-most (get key buffer) n = n
-most (append key value) n = n + 1
-most (remove how key) n = n + 1
-most collect n = 2 * n
-most (initialise key) n = 3 * n + 1
+-- What the services make of the image.
+
+-- the bytes of the one write that a call may ask for; a removal's come from the record that it found
+abbrev pub hitBytes : Removal → Hit → List ℕ
+hitBytes how (Hit.Live r x) = killBytes how x
+hitBytes how (Hit.Refused w) = []
+
+abbrev pub bytesWritten : Call → List ℕ → ℕ → ℕ → List ℕ
+bytesWritten (get key buffer) image s n = []
+bytesWritten (append key value) image s n = recordBytes key value
+bytesWritten (remove how key) image s n = hitBytes how (hitOf image s n key)
+bytesWritten collect image s n = []
+bytesWritten (initialise key) image s n = recordBytes key []
+
+-- services of a list, one after the other
+unfoldable pub servicesDone : ℕ → List ℕ → List Request → List ℕ → List ℕ
+servicesDone s bytes [] image = image
+servicesDone s bytes (q ∷ qs) image = servicesDone s bytes qs (serviceDone s bytes q image)
+
+-- The regions that a list of services erases, in its order.
+abbrev pub erasedOn : Request → List ℕ → List ℕ
+erasedOn (Request.Read r) rest = rest
+erasedOn (Request.Write a e p) rest = rest
+erasedOn (Request.Erase r) rest = r ∷ rest
+erasedOn (Request.Answers answer) rest = rest
+
+unfoldable pub erasesIn : List Request → List ℕ
+erasesIn [] = []
+erasesIn (q ∷ qs) = erasedOn q (erasesIn qs)
+
+-- The regions that a call erases: collect the dead ones, initialise all where it starts anew, the others none.
+abbrev pub erasesOf : Call → List ℕ → ℕ → ℕ → List ℕ
+erasesOf (get key buffer) image s n = []
+erasesOf (append key value) image s n = []
+erasesOf (remove how key) image s n = []
+erasesOf collect image s n = erasedBy image s n
+erasesOf (initialise key) image s n = cond (startsAnew (getOf image s n key [] .answer)) (numbers 0 n) []
+
+-- "reads in probe order up to the deciding region": the regions that a lookup of a key reads, all of them where none decides.
+pub data UpTo (image : List ℕ) (s key : ℕ) (order : List ℕ) : List ℕ → Type 0 where
+  live-decides : {r : ℕ} {x : Record} (d : Decides image s key order r (Event.Live x)) → UpTo image s key order (d .before ++ r ∷ [])
+  bad-decides : {r o : ℕ} {f : Fault} (d : Decides image s key order r (Event.Bad f o)) → UpTo image s key order (d .before ++ r ∷ [])
+  none-decides : ((q : ℕ) → List·Memᴰ q order → Passed image s key q) → UpTo image s key order order
+
+-- Collect's services where no bad place ends it: each region is read in its turn, and erased at once if it is dead.
+pub data Sweeps (s : ℕ) (image : List ℕ) : List ℕ → List Request → Type 0 where
+  none : Sweeps s image [] []
+  stood : {r : ℕ} {rs : List ℕ} {qs : List Request} → (Dead (regionOf s image r) → ⊥) → Sweeps s image rs qs → Sweeps s image (r ∷ rs) (Request.Read r ∷ qs)
+  was-dead : {r : ℕ} {rs : List ℕ} {qs : List Request} → Dead (regionOf s image r) → Sweeps s image rs qs → Sweeps s image (r ∷ rs) (Request.Read r ∷ Request.Erase r ∷ qs)
 
 -- How a run of a call ends that was lent this buffer: with the answer, the image and the buffer of the one-call form, and these services done.
 pub record Ends (c : Call) (image : List ℕ) (s n : ℕ) (buffer : List ℕ) (run : Run) : Type 0 where

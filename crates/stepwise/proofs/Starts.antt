@@ -6,53 +6,26 @@ use native.Mathlib.Nat.{le-add-right}
 use native.Mathlib.Omega.{arith}
 use mathlib.Core.Path.{_≡_, refl, sym, _∙_}
 use mathlib.Core.Bool.{Bool, true, false, cond}
-use mathlib.Core.Option.{Option, none, some}
 use lib.ListN.{length}
 use Rattle.probe.proofs.Theorems.{in-range}
 use Rattle.refusals.specs.declared.Check.{Check}
-use Rattle.plans.specs.declared.Aim.{Aim}
 use Rattle.plans.specs.declared.Lent.{Lent}
 use Rattle.plans.specs.declared.Edit.{Edit}
 use Rattle.plans.specs.declared.First.{First}
 use Rattle.plans.specs.declared.Then.{Then}
-use Rattle.plans.specs.Writes.{valueLent, inRegion, startOf as beginsAt, sizeOf, first, follows, look}
+use Rattle.plans.specs.Writes.{valueLent, inRegion, startOf as beginsAt, sizeOf, first}
 use Rattle.plans.specs.Fits.{thenFits}
 use Rattle.plans.proofs.Facts.{edit-facts, edits-facts, seek-facts, sweep-facts}
-use Rattle.store.specs.Call.{Call, get, append, remove, collect, initialise, aimOf}
+use Rattle.store.specs.Call.{Call, get, append, remove, collect, initialise}
 use Rattle.running.specs.declared.Op.{Op}
 use Rattle.running.specs.declared.Start.{Start}
 use Rattle.running.specs.declared.Wait.{Wait}
-use Rattle.running.specs.Starts.{started, startRefusal, startedOr}
+use Rattle.running.specs.Starts.{startRefusal, startedOr}
 use Rattle.running.specs.Waits.{waitNext, waitFirst, requestEdit, requestFor, requestOf}
 use Rattle.running.specs.Ruled.{Ruled}
 use Rattle.running.proofs.Rules.{plan-of, look-ruled, collect-ruled}
-use Rattle.runs.specs.Host.{Inside, reads, writes, erases, answers, startOf}
-
--- The key of a call, what is lent for it and what it begins with. Collect has no key: its operation carries 1.
-abbrev pub keyOf : Call → ℕ
-keyOf (get key buffer) = key
-keyOf (append key value) = key
-keyOf (remove how key) = key
-keyOf collect = 1
-keyOf (initialise key) = key
-
-abbrev pub lentOf : Call → Lent
-lentOf (get key buffer) = Lent.Buffer (length buffer)
-lentOf (append key value) = Lent.Value (length value)
-lentOf (remove how key) = Lent.Nothing
-lentOf collect = Lent.Nothing
-lentOf (initialise key) = Lent.Nothing
-
--- with its lookup, or with the sweep of the first region
-abbrev beginsWith : Option Aim → Then
-beginsWith (some aim) = look aim
-beginsWith none = Then.Sweep 0 0
-
-abbrev pub firstOf : Call → Then
-firstOf c = beginsWith (aimOf c)
-
-abbrev pub freshOf : Call → ℕ → ℕ → Op
-freshOf c s n = started s n (keyOf c) (lentOf c) (follows (firstOf c))
+use Rattle.stepwise.specs.Asked.{Inside, reads, writes, erases, answers}
+use Rattle.stepwise.specs.Begins.{startOf, keyOf, lentOf, freshOf}
 
 -- Every start is of one form, and hands out what keeps the rule.
 pub starts-so : (c : Call) (s n : ℕ) → startOf c s n ≡ startedOr (freshOf c s n) (startRefusal s n (keyOf c) (valueLent (lentOf c)))

@@ -49,7 +49,7 @@ use Rattle.rule.proofs.Calls.{fits-ruled}
 use Rattle.steps.specs.declared.Stepped.{Stepped}
 use Rattle.advancing.specs.Advance.{closes, turnedTo, advanceNext, advanceFirst, advance, givenBy, given}
 use Rattle.steps.specs.Step.{nextOp, fitsHere, stepped}
-use Rattle.runs.specs.Host.{requestRefusal}
+use Rattle.stepwise.specs.Asked.{requestRefusal}
 
 -- The refusal that a plan's end stands for, before its value is given and after.
 abbrev endRefusal : ℕ → Then → ℕ

@@ -1,0 +1,4 @@
+pub mod Read
+pub mod Called
+pub mod Numbers
+pub mod Theorems

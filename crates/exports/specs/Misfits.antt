@@ -1,0 +1,32 @@
+-- Line 11 of the table in words, over the numbers and the bytes that a caller passes.
+use Prim.Native.Nat.{ℕ, _<_}
+use mathlib.Core.Path.{_≡_}
+use mathlib.Core.Bool.{false}
+use mathlib.Core.List.{List}
+use lib.ListN.{length}
+use Rattle.running.specs.declared.Op.{Op}
+use Rattle.rule.specs.Rule.{rule}
+use Rattle.operations.specs.declared.COperation.{COperation}
+use Rattle.operations.specs.Unpacks.{KnownOp, unpacked}
+
+-- 11 BadCall: each clause of the line. `lent` is 1 where a value is lent and 2 where a buffer is, of `len` bytes; `fresh` is 1 before the first step;
+-- the replies are 0 begin, 1 done, 2 not ready, 3 failed; `next` is 6 after the end.
+pub data Misfits (o : COperation) (y : ℕ) (region value buffer : List ℕ) : Type 0 where
+  -- "region buffer not S bytes,
+  region-buffer : (length region ≡ o .s → ⊥) → Misfits o y region value buffer
+  -- append's value
+  value-length : o .lent ≡ 1 → (length value ≡ o .len → ⊥) → Misfits o y region value buffer
+  -- or get's buffer not of the length named at the start,
+  buffer-length : o .lent ≡ 2 → (length buffer ≡ o .len → ⊥) → Misfits o y region value buffer
+  -- "begin" at any but the first step
+  begins-late : o .fresh ≡ 0 → y ≡ 0 → Misfits o y region value buffer
+  -- or another reply at the first,
+  another-first : o .fresh ≡ 1 → (y ≡ 0 → ⊥) → Misfits o y region value buffer
+  -- or what is no reply;
+  no-reply : 3 < y → Misfits o y region value buffer
+  -- a step after the end,
+  after-the-end : o .next ≡ 6 → Misfits o y region value buffer
+  -- numbers that no start and no step hands out: those of no running operation,
+  nothing-runs : unpacked o ≡ KnownOp.Unknown → Misfits o y region value buffer
+  -- or a running operation that breaks the written rule"
+  rule-broken : {op : Op} → unpacked o ≡ KnownOp.Known op → rule op ≡ false → Misfits o y region value buffer

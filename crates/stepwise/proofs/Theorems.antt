@@ -1,0 +1,221 @@
+-- What a start and one step give, ask for and leave: of any running operation, any reply and any lent bytes, and with no image at hand. Then what any
+-- host can count on, also one that lies: an operation asks for so many services, and ends. Whole runs against an honest host are in runs.
+-- The arguments: Starts.antt and Begins.antt (starts), Misfits.antt and Exactly.antt (refusals 11 and 12), Lays.antt (what a step leaves in the
+-- buffers), Asks.antt (what an operation of a call asks for), Falls.antt (services still to come).
+-- Assumes nothing.
+use Prim.Native.Nat.{ℕ, suc, _+_, _-_, _*_, _≤_}
+use mathlib.Core.Path.{_≡_, refl, sym, _∙_}
+use mathlib.Core.Bool.{Bool, true, false, cond}
+use mathlib.Core.List.{List}
+use mathlib.Core.Logic.{_⊎_, _↔_}
+use lib.ListN.{length, take, drop}
+use Rattle.chip.specs.Every.{Every}
+use Rattle.format.specs.declared.Removal.{Removal}
+use Rattle.format.specs.Layout.{recordBytes}
+use Rattle.refusals.specs.declared.Refusal.{Refusal}
+use Rattle.plans.specs.declared.Answer.{Answer}
+use Rattle.plans.specs.declared.Answer.the-variants.{Refused}
+use Rattle.plans.specs.Writes.{refuses}
+use Rattle.store.specs.Call.{Call, append}
+use Rattle.running.specs.declared.Op.{Op}
+use Rattle.running.specs.declared.Start.{Start}
+use Rattle.running.specs.declared.Reply.{Reply}
+use Rattle.running.specs.declared.Request.{Request}
+use Rattle.running.specs.Starts.{getStarted, appendStarted, removeStarted, collectStarted, initialiseStarted}
+use Rattle.running.specs.Waits.{withPlan, requestOf}
+use Rattle.rule.specs.Rule.{rule, serves}
+use Rattle.rule.proofs.Calls.{ruled, is-ruled, fits-ruled}
+use Rattle.steps.specs.declared.Stepped.{Stepped}
+use Rattle.steps.specs.Step.{nextOp, fitsHere, stepped, regionAfter, bufferAfter}
+use Rattle.steps.proofs.Keeps.{next-ruled}
+use Rattle.stepwise.specs.Asked.{asks, requestRefusal, Inside, MayAsk, GetReads}
+use Rattle.stepwise.specs.Begins.{startOf, StartWhen, Allowed, freshOf}
+use Rattle.stepwise.specs.Misfit.{Misfit, LentRight}
+use Rattle.stepwise.specs.Ahead.{Given, next, after, Fair, dones, ahead, most}
+use Rattle.stepwise.proofs.Starts.{start-ruled, inside}
+use Rattle.stepwise.proofs.Begins.{refuses-when, runs-else}
+use Rattle.stepwise.proofs.Exactly.{still-there}
+use Rattle.stepwise.proofs.Misfits.{fits, eleven-when, twelve-when}
+use Rattle.stepwise.proofs.Lays.{steps, steps-inside, steps-alter, steps-leave, leaves-rest, steps-fill}
+use Rattle.stepwise.proofs.Asks.{call-asks, append-lays-lent}
+use Rattle.stepwise.proofs.Falls.{at-start, falls, rises-never, none-left, ends-always}
+
+-- Starts.
+
+-- A start refuses exactly where one of the three lines says so: of S, N, the key and the length of the value alone.
+pub start-refuses-exactly-when : (c : Call) (s n : ℕ) (w : Refusal) → (startOf c s n ≡ Start.Refused w) ↔ StartWhen s n c w
+start-refuses-exactly-when c s n w = refuses-when c s n w
+
+-- Where none does, it hands out the fresh operation of the call.
+pub start-runs-else : (c : Call) (s n : ℕ) → Allowed s n c → startOf c s n ≡ Start.Runs (freshOf c s n)
+start-runs-else c s n a = runs-else c s n a
+
+-- The rule.
+
+-- "the written rule which every one handed back by a start or a step keeps"
+pub start-keeps : (c : Call) (s n : ℕ) (op : Op) → startOf c s n ≡ Start.Runs op → rule op ≡ true
+start-keeps c s n op h = is-ruled op (start-ruled c s n h)
+
+pub next-keeps : (op : Op) (y : Reply) (region value buffer : List ℕ) → fitsHere op y region value buffer ≡ true → rule (nextOp op y region) ≡ true
+next-keeps op y region value buffer h =
+    let (k, long, _, _) = fits-ruled op y (length region) (length value) (length buffer) h in
+    is-ruled _ (next-ruled op y region k long)
+
+pub step-keeps : (op : Op) (y : Reply) (region value buffer : List ℕ) → rule op ≡ true → rule (stepped op y region value buffer .op) ≡ true
+unfolding stepped
+step-keeps op y region value buffer k = go (fitsHere op y region value buffer) refl
+  where
+    go : (t : Bool) → fitsHere op y region value buffer ≡ t
+        → rule (cond {A = Stepped} t (record { op = nextOp op y region; request = requestOf (nextOp op y region) }) (record { op = op; request = Request.Answers (Refused Refusal.BadCall) }) .op) ≡ true
+    go true h = next-keeps op y region value buffer h
+    go false h = k
+
+-- What is asked for.
+
+-- What a step asks for lies in the chip, of every operation, whether it keeps the rule or not: BadCall asks for nothing.
+pub step-inside : (op : Op) (y : Reply) (region value buffer : List ℕ) → Inside (op .s) (op .n) (stepped op y region value buffer .request)
+step-inside op y region value buffer = steps-inside (steps op y region value buffer)
+
+-- And what one that keeps the rule waits for.
+pub asks-inside : (op : Op) → rule op ≡ true → Inside (op .s) (op .n) (requestOf op)
+asks-inside op k = inside op (ruled op k)
+
+-- Which operations ask for a write, and which for an erase: of a call that was started, after any replies and any lent bytes. Get, append and the
+-- removals never ask for an erase.
+pub asks-only : (c : Call) (s n : ℕ) (op : Op) → startOf c s n ≡ Start.Runs op → (gs : List Given) → MayAsk s c (requestOf (after op gs))
+asks-only c s n op h gs = call-asks c s n op h gs
+
+-- What a step leaves in the lent buffers.
+
+-- The region buffer is altered by no step but the one that asks for a write.
+pub region-altered-only : (op : Op) (y : Reply) (region value buffer : List ℕ)
+    → (regionAfter op y region value buffer ≡ region)
+    ⊎ ((a : ℕ) × (e : ℕ) × (p : ℕ) × (stepped op y region value buffer .request ≡ Request.Write a e p))
+region-altered-only op y region value buffer = steps-alter (steps op y region value buffer)
+
+-- And that step alters just the bytes that are to be written: "the rest stays as last read".
+pub rest-stays : (op : Op) (y : Reply) (region value buffer : List ℕ) {a e p : ℕ} → stepped op y region value buffer .request ≡ Request.Write a e p
+    → let region′ = regionAfter op y region value buffer in
+    (length region′ ≡ length region) × (take a region′ ≡ take a region) × (drop e region′ ≡ drop e region)
+rest-stays op y region value buffer h = leaves-rest (steps-leave (steps op y region value buffer) h)
+
+-- "The value lent at the step that asks for the write is the one written": of an append, whatever value any earlier step was lent. A step with "not
+-- ready" repeats the request, and lays nothing.
+pub lent-is-written : (key : ℕ) (named : List ℕ) (s n : ℕ) (op : Op) → startOf (append key named) s n ≡ Start.Runs op → (gs : List Given)
+    → (y : Reply) → (y ≡ Reply.NotReady → ⊥) → (region value buffer : List ℕ) {a e p : ℕ} → stepped (after op gs) y region value buffer .request ≡ Request.Write a e p
+    → take (e - a) (drop a (regionAfter (after op gs) y region value buffer)) ≡ recordBytes key value
+lent-is-written key named s n op h gs y w region value buffer asked = append-lays-lent key named s n op h gs y w region value buffer asked
+
+-- Get's buffer is altered by no step but the one of a get that answers by the record which it found: Complete, BufferTooSmall or InvalidCheckSum.
+pub buffer-altered-only : (op : Op) (y : Reply) (region value buffer : List ℕ)
+    → (bufferAfter op y region value buffer ≡ buffer) ⊎ GetReads op (stepped op y region value buffer .request)
+buffer-altered-only op y region value buffer = steps-fill (steps op y region value buffer)
+
+-- Replies.
+
+-- "BadCall leaves the running operation as it was", and all buffers.
+pub bad-call : (op : Op) (y : Reply) (region value buffer : List ℕ) → fitsHere op y region value buffer ≡ false
+    → (stepped op y region value buffer ≡ record { op = op; request = Request.Answers (Refused Refusal.BadCall) })
+    × (regionAfter op y region value buffer ≡ region)
+    × (bufferAfter op y region value buffer ≡ buffer)
+unfolding stepped regionAfter bufferAfter
+bad-call op y region value buffer h = (rw h, rw h, rw h)
+
+-- ""Not ready" repeats the request and alters nothing."
+pub not-ready : (op : Op) (region value buffer : List ℕ) → fitsHere op Reply.NotReady region value buffer ≡ true
+    → (stepped op Reply.NotReady region value buffer ≡ record { op = op; request = requestOf op })
+    × (regionAfter op Reply.NotReady region value buffer ≡ region)
+    × (bufferAfter op Reply.NotReady region value buffer ≡ buffer)
+unfolding stepped regionAfter bufferAfter
+not-ready op region value buffer h =
+    let same : nextOp op Reply.NotReady region ≡ op = still-there op (fits-ruled op Reply.NotReady (length region) (length value) (length buffer) h .3) in
+    (rw h (λ i. record { op = same i; request = requestOf (same i) }), rw h, rw h)
+
+-- "FlashFailed ends the operation." "A refusal alters no byte of image or buffer".
+pub flash-failed : (op : Op) (region value buffer : List ℕ) → fitsHere op Reply.Failed region value buffer ≡ true
+    → (stepped op Reply.Failed region value buffer ≡ record { op = withPlan op (refuses Refusal.FlashFailed); request = Request.Answers (Refused Refusal.FlashFailed) })
+    × (regionAfter op Reply.Failed region value buffer ≡ region)
+    × (bufferAfter op Reply.Failed region value buffer ≡ buffer)
+unfolding stepped regionAfter bufferAfter
+flash-failed op region value buffer h = (rw h, rw h, rw h)
+
+-- Where a service is asked for, every reply that says how it went fits, with buffers of the right lengths and any bytes: a failed one too, which is
+-- then FlashFailed and never BadCall.
+pub reply-fits : (op : Op) (y : Reply) (region value buffer : List ℕ) → rule op ≡ true → asks (requestOf op) ≡ true → serves y ≡ true
+    → length region ≡ op .s → LentRight (op .lent) value buffer → fitsHere op y region value buffer ≡ true
+reply-fits op y region value buffer k a f l t = fits op y region value buffer k a f l t
+
+-- "Exactly when".
+
+-- 11 BadCall, exactly when one of the clauses of its line says so.
+pub bad-call-exactly-when : (op : Op) (y : Reply) (region value buffer : List ℕ)
+    → (requestRefusal (stepped op y region value buffer .request) ≡ 11) ↔ Misfit op y region value buffer
+bad-call-exactly-when op y region value buffer = eleven-when op y region value buffer
+
+-- 12 FlashFailed, exactly when "the host reports a failed service"; "11 before 12": where no clause of line 11 says so.
+pub flash-failed-exactly-when : (op : Op) (y : Reply) (region value buffer : List ℕ)
+    → (requestRefusal (stepped op y region value buffer .request) ≡ 12) ↔ ((Misfit op y region value buffer → ⊥) × (y ≡ Reply.Failed))
+flash-failed-exactly-when op y region value buffer = twelve-when op y region value buffer
+
+-- "Nothing [..] runs on", whatever the host: any bytes in the buffers at each step, and any replies.
+
+-- A number of services still to come. At the start it is get's n, append's and the removals' n + 1, collect's 2 n, initialise's 3 n + 1,
+pub ahead-at-start : (c : Call) (s n : ℕ) (op : Op) → startOf c s n ≡ Start.Runs op → (ahead op ≡ most c n) × (ahead op ≤ 3 * n + 1)
+ahead-at-start c s n op h = at-start c s n op h
+
+-- it falls with every "done" that is not BadCall,
+pub falls-with-done : (op : Op) (region value buffer : List ℕ) → fitsHere op Reply.Done region value buffer ≡ true
+    → suc (ahead (stepped op Reply.Done region value buffer .op)) ≤ ahead op
+falls-with-done op region value buffer h = falls op region value buffer h
+
+-- never rises,
+pub never-rises : (op : Op) (g : Given) → ahead (next op g) ≤ ahead op
+never-rises op g = rises-never op g
+
+-- and is 0 only when the operation has answered, and always then.
+pub none-ahead : (op : Op) → rule op ≡ true → (ahead op ≡ 0) ↔ ((op .fresh ≡ false) × ((answer : Answer) × (requestOf op ≡ Request.Answers answer)))
+none-ahead op k = none-left op k
+
+-- So an operation ends, in the hands of a chip that lies about its reads, writes and erases too: once it has begun, after as many "done" as the
+-- number says it has answered. (A host that is never ready is asked for ever: that is the host's.)
+pub ends-whatever-the-host : (c : Call) (s n : ℕ) (op : Op) → startOf c s n ≡ Start.Runs op
+    → (region value buffer : List ℕ) → length region ≡ s → LentRight (op .lent) value buffer
+    → let begun = stepped op Reply.Begin region value buffer .op in
+    (gs : List Given) → Every (Fair op) gs → most c n ≤ dones gs
+    → (answer : Answer) × (requestOf (after begun gs) ≡ Request.Answers answer)
+ends-whatever-the-host c s n op h region value buffer long lent gs fair enough = ends-always c s n op h region value buffer long lent gs fair enough
+
+-- "Show that any pair of results allowed for one input is identical": a step's result, region buffer and buffer at exit, and what a start gives.
+
+-- What step's contract allows.
+abbrev StepAllows : Op → Reply → List ℕ → List ℕ → List ℕ → Stepped → List ℕ → List ℕ → Type 0
+StepAllows op y region value buffer t r b =
+    (t ≡ stepped op y region value buffer) × (r ≡ regionAfter op y region value buffer) × (b ≡ bufferAfter op y region value buffer)
+
+pub step-only-one : (op : Op) (y : Reply) (region value buffer : List ℕ) {t t′ : Stepped} {r r′ b b′ : List ℕ}
+    → StepAllows op y region value buffer t r b
+    → StepAllows op y region value buffer t′ r′ b′
+    → (t ≡ t′) × (r ≡ r′) × (b ≡ b′)
+step-only-one op y region value buffer (p, q, u) (p′, q′, u′) = (p ∙ sym p′, q ∙ sym q′, u ∙ sym u′)
+
+only-one : {start a a′ : Start} → a ≡ start → a′ ≡ start → a ≡ a′
+only-one p p′ = p ∙ sym p′
+
+module _ (s n : ℕ) {a a′ : Start} where
+  pub start-get-only-one : (key capacity : ℕ) → a ≡ getStarted s n key capacity → a′ ≡ getStarted s n key capacity → a ≡ a′
+  start-get-only-one key capacity = only-one
+
+  pub start-append-only-one : (key len : ℕ) → a ≡ appendStarted s n key len → a′ ≡ appendStarted s n key len → a ≡ a′
+  start-append-only-one key len = only-one
+
+  pub start-invalidate-only-one : (key : ℕ) → a ≡ removeStarted Removal.Invalidate s n key → a′ ≡ removeStarted Removal.Invalidate s n key → a ≡ a′
+  start-invalidate-only-one key = only-one
+
+  pub start-zeroise-only-one : (key : ℕ) → a ≡ removeStarted Removal.Zeroise s n key → a′ ≡ removeStarted Removal.Zeroise s n key → a ≡ a′
+  start-zeroise-only-one key = only-one
+
+  pub start-collect-only-one : a ≡ collectStarted s n → a′ ≡ collectStarted s n → a ≡ a′
+  start-collect-only-one = only-one
+
+  pub start-initialise-only-one : (key : ℕ) → a ≡ initialiseStarted s n key → a′ ≡ initialiseStarted s n key → a ≡ a′
+  start-initialise-only-one key = only-one

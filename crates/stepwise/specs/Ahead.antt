@@ -1,0 +1,79 @@
+-- Any host at all: it replies what it likes and lends any bytes, at every step other ones. How many services an operation then still asks for at most.
+use Prim.Native.Nat.{ℕ, suc, _+_, _-_, _*_}
+use mathlib.Core.Path.{_≡_}
+use mathlib.Core.Bool.{Bool, true, false, cond}
+use mathlib.Core.List.{List, [], _∷_}
+use lib.ListN.{length}
+use Rattle.plans.specs.declared.Aim.{Aim}
+use Rattle.plans.specs.declared.Then.{Then}
+use Rattle.plans.specs.declared.Plan.{Plan}
+use Rattle.plans.specs.Writes.{listed}
+use Rattle.store.specs.Call.{Call, get, append, remove, collect, initialise}
+use Rattle.running.specs.declared.Op.{Op}
+use Rattle.running.specs.declared.Reply.{Reply}
+use Rattle.rule.specs.Rule.{serves}
+use Rattle.steps.specs.Step.{stepped}
+use Rattle.stepwise.specs.Misfit.{LentRight}
+
+-- What a host gives to a step: its reply, and what it lends.
+pub record Given : Type 0 where
+  pub reply : Reply
+  pub region : List ℕ
+  pub value : List ℕ
+  pub buffer : List ℕ
+
+-- what a step makes of the operation
+abbrev pub next : Op → Given → Op
+next op g = stepped op (g .reply) (g .region) (g .value) (g .buffer) .op
+
+-- and steps, one after the other
+unfoldable pub after : Op → List Given → Op
+after op [] = op
+after op (g ∷ gs) = after (next op g) gs
+
+-- The lengths are right and the reply says how a service went; which bytes are lent is open.
+pub record Fair (op : Op) (g : Given) : Type 0 where
+  pub region-long : length (g .region) ≡ op .s
+  pub lent-right : LentRight (op .lent) (g .value) (g .buffer)
+  pub replies : serves (g .reply) ≡ true
+
+-- in how many of them the host says that a service is done
+abbrev pub isDone : Reply → Bool
+isDone Reply.Begin = false
+isDone Reply.Done = true
+isDone Reply.NotReady = false
+isDone Reply.Failed = false
+
+unfoldable pub dones : List Given → ℕ
+dones [] = 0
+dones (g ∷ gs) = cond (isDone (g .reply)) (suc (dones gs)) (dones gs)
+
+-- The services still to come, at most.
+
+-- behind a lookup's reads: one write of append's or a removal's; initialise's erases, and append's services then
+abbrev pub behind : Aim → ℕ → ℕ
+behind Aim.Get n = 0
+behind Aim.Append n = 1
+behind (Aim.Remove how) n = 1
+behind Aim.Initialise n = n + (n + 1)
+
+-- behind the edits: the regions that are left to read, a sweep's twice, since each may be erased too
+abbrev pub aheadNext : ℕ → Then → ℕ
+aheadNext n (Then.Ends answer) = 0
+aheadNext n (Then.Seek aim i seen) = n - i + behind aim n
+aheadNext n (Then.Sweep r k) = 2 * (n - r)
+aheadNext n (Then.Gives r x anew) = cond anew (behind Aim.Initialise n) 0
+
+abbrev pub aheadPlan : ℕ → Plan → ℕ
+aheadPlan n p = length (listed (p .edits)) + aheadNext n (p .next)
+
+abbrev pub ahead : Op → ℕ
+ahead op = aheadPlan (op .n) (op .plan)
+
+-- how many they are at the start: "a lookup N at most", "2N at most", "3N+1 at most"
+abbrev pub most : Call → ℕ → ℕ
+most (get key buffer) n = n
+most (append key value) n = n + 1
+most (remove how key) n = n + 1
+most collect n = 2 * n
+most (initialise key) n = 3 * n + 1

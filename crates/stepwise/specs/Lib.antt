@@ -1,0 +1,4 @@
+pub mod Asked
+pub mod Begins
+pub mod Misfit
+pub mod Ahead
