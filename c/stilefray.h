@@ -246,6 +246,8 @@ stilefray_start stilefray_start_initialise(size_t s, size_t n, uint64_t key);
  * In this order and no others: get, reads in probe order up to the deciding region; append, all n reads, then one write; invalidate and
  * zeroise, get's reads, then one write; collect, for each region a read and, where due, an erase (2n at most); initialise, get's reads
  * and, if it must erase, n erases in number order and append's services (3n + 1 at most). A refusal ends the list where it is known.
+ * Whatever bytes are read and whatever is replied, no request lies outside the chip, and an operation has answered once so many services
+ * were said to be done (get n, append and the removals n + 1). One whose host is never ready is asked for ever.
  *
  * What a step leaves: `region` is altered only by the step that asks for a write: the bytes to write then lie in it at their own place
  * in the region, and the rest stays as last read. `buffer` is altered only by the step of a get that answers COMPLETE, BUFFER_TOO_SMALL

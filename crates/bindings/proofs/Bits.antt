@@ -3,7 +3,7 @@
 use Prim.Native.Nat.{ℕ, zero, suc, _+_, _*_, _≤_, _<_}
 use native.Mathlib.Nat.{zero-add}
 use native.Mathlib.Omega.{arith}
-use mathlib.Core.Path.{_≡_, refl, _∙_, ap}
+use mathlib.Core.Path.{_≡_, refl, sym, _∙_, ap}
 use mathlib.Core.Bool.{Bool, true, false, cond, false≢true}
 use mathlib.Core.Logic.{_⊎_, inl, inr, ⊎-elim}
 use mathlib.Core.List.{List, [], _∷_}
@@ -13,7 +13,7 @@ use lib.Seq.{length-sets}
 use Rattle.chip.specs.Chip.{written, erased}
 use Rattle.chip.specs.Geometry.{Fits, geometry, regionOf, eraseRegion, numbers}
 use Rattle.chip.proofs.Lists.{Every}
-use Rattle.chip.proofs.Image.{geometry-fits, fits-erased, region-erased-same, region-erased-other}
+use Rattle.chip.proofs.Image.{length-erased, geometry-fits, fits-erased, region-erased-same, region-erased-other}
 use Rattle.chip.proofs.Laws.{length-written}
 use Rattle.chip.proofs.Theorems.{write-clears}
 use Rattle.probe.specs.Probe.{home}
@@ -26,8 +26,11 @@ use Rattle.plans.specs.Answers.{refusal, numberStartsAnew, startsAnew}
 use Rattle.store.specs.Write.{Done, appendOf, removeOf, refused, initialiseOf}
 use Rattle.store.specs.Collect.{collectIn, collectOf}
 use Rattle.store.specs.Read.{getOf}
-use Rattle.store.specs.Call.{get, answerOf}
-use Rattle.pinned.proofs.Theorems.{initialise-written}
+use Rattle.store.specs.Call.{get, initialise, answerOf}
+use Rattle.pinned.specs.When.{When}
+use Rattle.pinned.proofs.Lines.{line-some}
+use Rattle.pinned.proofs.Answers.{reason-number, reads-if}
+use Rattle.pinned.proofs.Theorems.{refused-leaves, initialise-written}
 use Rattle.bindings.specs.Calls.{OnlyCleared}
 use Rattle.bindings.proofs.Images.{same-or-not}
 use Rattle.bindings.proofs.Outcomes.{Appending, appending, Removing, removing}
@@ -123,3 +126,16 @@ initialise-writes image s n key = go (startsAnew (getOf image s n key [] .answer
         → (initialiseOf image s n key .image ≡ image) ⊎ (initialiseOf image s n key .image ≡ written (erased (n * s)) (home key n * s) (recordBytes key []))
     go true e = inr (ap (λ (d : Done). d .image) (initialise-written key image s n (anew-behind (refusal (answerOf (get key []) image s n)) e)))
     go false e = inl (rw (e, initialiseOf))
+
+-- which has the image's length: a call that is not refused has an image of the chip's size
+pub initialise-length : (image : List ℕ) (s n key : ℕ) → length (initialiseOf image s n key .image) ≡ length image
+initialise-length image s n key = ⊎-elim goes stays (reason-number image s n (initialise key))
+  where
+    stays : When image s n (refusal (answerOf (initialise key) image s n)) (initialise key) → length (initialiseOf image s n key .image) ≡ length image
+    stays w = ap length (refused-leaves (initialise key) image s n (line-some w .0))
+
+    goes : refusal (answerOf (initialise key) image s n) ≡ 0 → length (initialiseOf image s n key .image) ≡ length image
+    goes z =
+        ⊎-elim (λ e. ap length e)
+        (λ e. ap length e ∙ length-written (erased (n * s)) (home key n * s) (recordBytes key []) ∙ length-erased (n * s) ∙ sym (reads-if image s n (initialise key) z .fits .size))
+        (initialise-writes image s n key)

@@ -263,6 +263,9 @@ pub initialise-only-clears : (image : List ℕ) (s n key : ℕ)
     → (initialiseOf image s n key .image ≡ image) ⊎ (initialiseOf image s n key .image ≡ written (erased (n * s)) (home key n * s) (recordBytes key []))
 initialise-only-clears image s n key = Bits.initialise-writes image s n key
 
+pub initialise-keeps-length : (image : List ℕ) (s n key : ℕ) → length (initialiseOf image s n key .image) ≡ length image
+initialise-keeps-length image s n key = Bits.initialise-length image s n key
+
 -- What an erase may raise is just its region.
 pub erase-raises-its-region : (s r : ℕ) (image : List ℕ) (k : ℕ) → (k < r * s) ⊎ (r * s + s ≤ k) → getD (eraseRegion s r image) k 0 ≡ getD image k 0
 erase-raises-its-region s r image k h = erase-only s r image k h

@@ -28,15 +28,15 @@ use Rattle.store.specs.Call.{Call, get, append, remove, collect, initialise, ke
 use Rattle.pinned.specs.When.{Barred, BadKey, Reads}
 
 -- a test, and what it says
-abbrev Says : Bool → Type 0 → Type 0
+abbrev pub Says : Bool → Type 0 → Type 0
 Says true P = P
 Says false P = P → ⊥
 
-says-true : {P : Type 0} (b : Bool) → Says b P → P → b ≡ true
+pub says-true : {P : Type 0} (b : Bool) → Says b P → P → b ≡ true
 says-true true h p = refl
 says-true false h p = absurd (h p)
 
-says-false : {P : Type 0} (b : Bool) → Says b P → (P → ⊥) → b ≡ false
+pub says-false : {P : Type 0} (b : Bool) → Says b P → (P → ⊥) → b ≡ false
 says-false true h p = absurd (p h)
 says-false false h p = refl
 
@@ -59,11 +59,11 @@ barred-says key = go (eqb key 0) refl (eqb key (2 ^ 64 - 1)) refl
     go false e false f = ⊎-elim (eqb-false key 0 e) (eqb-false key (2 ^ 64 - 1) f)
 
 -- whether a call's key is refused
-abbrev barred : Option ℕ → Bool
+abbrev pub barred : Option ℕ → Bool
 barred none = false
 barred (some key) = not (allowedKey key)
 
-key-says : (k : Option ℕ) → Says (barred k) ((key : ℕ) × (k ≡ some key) × Barred key)
+pub key-says : (k : Option ℕ) → Says (barred k) ((key : ℕ) × (k ≡ some key) × Barred key)
 key-says none = λ (key, e, b). let z : _≡_ {A = ℕ} 0 1 = cc in omega arith
 key-says (some key) = go (not (allowedKey key)) (barred-says key)
   where
@@ -75,7 +75,7 @@ key-says (some key) = go (not (allowedKey key)) (barred-says key)
 pub keyless : BadKey collect → ⊥
 keyless = key-says none
 
-size-says : (m : ℕ) → Says (ltb (largestValue edition) m) (largestValue edition < m)
+pub size-says : (m : ℕ) → Says (ltb (largestValue edition) m) (largestValue edition < m)
 size-says m = go (ltb (largestValue edition) m) refl
   where
     go : (b : Bool) → ltb (largestValue edition) m ≡ b → Says b (largestValue edition < m)

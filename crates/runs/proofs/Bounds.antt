@@ -1,9 +1,9 @@
 -- How many services a call takes at most: a lookup reads each region of the probe order once at most, collect reads and erases each once at most.
 -- Assumes nothing.
-use Prim.Native.Nat.{ℕ, zero, suc, _+_, _-_, _*_, _≤_}
+use Prim.Native.Nat.{ℕ, suc, _+_, _-_, _*_, _≤_}
 use native.Mathlib.Nat.{sub-zero}
 use native.Mathlib.Omega.{arith}
-use mathlib.Core.Path.{_≡_, refl, ap}
+use mathlib.Core.Path.{_≡_, refl}
 use mathlib.Core.Bool.{Bool, true, false, cond}
 use mathlib.Core.List.{List, [], _∷_, _++_, map}
 use lib.ListN.{length, length-append, length-map}
@@ -36,6 +36,7 @@ use Rattle.store.specs.Call.{Call, get, append, remove, collect, initialise}
 use Rattle.running.specs.declared.Request.{Request}
 use Rattle.running.specs.Waits.{requestEdit}
 use Rattle.stepwise.specs.Ahead.{most}
+use Rattle.stepwise.proofs.Falls.{numbers-length}
 use Rattle.runs.specs.Services.{unlessRefused, edits, collectServices, anewServices, services}
 
 read-bound : (seen : Seen) (key : ℕ) (need : Need) (s : ℕ) (image rs : List ℕ) → length (readFrom seen key need s image rs) ≤ length rs
@@ -58,11 +59,6 @@ collect-bound s image (r ∷ rs) = go (verdict r (regionOf s image r)) refl (col
     go Verdict.Stands e a b = rw (collectServices, e) (omega arith)
     go Verdict.Erase e a b = rw (collectServices, e) (omega arith)
     go (Verdict.Bad f o) e a b = rw (collectServices, e) (omega arith)
-
-numbers-length : (r k : ℕ) → length (numbers r k) ≡ k
-unfolding numbers
-numbers-length r zero = refl
-numbers-length r (suc k) = ap suc (numbers-length (r + 1) k)
 
 -- "then one write": the edits of a plan of append's, and of a removal's
 place-one : (place : Room) → length (listed (placePlan place .edits)) ≤ 1
@@ -152,10 +148,3 @@ bound (initialise key) image s n =
     go : 1 ≤ n → (t : Bool) → length (cond t (anewServices key s n) []) ≤ 2 * n + 1
     go z true = anew-bound key s n z
     go z false = omega arith
-
-pub most-any : (c : Call) (n : ℕ) → most c n ≤ 3 * n + 1
-most-any (get key buffer) n = omega arith
-most-any (append key value) n = omega arith
-most-any (remove how key) n = omega arith
-most-any collect n = omega arith
-most-any (initialise key) n = omega arith

@@ -21,9 +21,9 @@ use Rattle.bindings.proofs.Theorems.{erases-keep, collect-broken}
 use Rattle.running.specs.declared.Op.{Op}
 use Rattle.running.specs.declared.Start.{Start}
 use Rattle.stepwise.specs.Begins.{startOf}
-use Rattle.runs.specs.Host.{Beat, begun, drive, readies, Lends, lends-get, lends-append, lends-remove, lends-collect, lends-initialise}
+use Rattle.runs.specs.Host.{Host, Beat, failed, begun, drive, readies, Lends, lends-get, lends-append, lends-remove, lends-collect, lends-initialise}
 use Rattle.runs.specs.Services.{services, bytesWritten, erasesOf}
-use Rattle.runs.specs.Events.{Event, in-one, in-steps, bufferIn, leftBy, imageAfterEvent, imageAfterEvents, SparesIn, one-spares, steps-spare, SparesThrough, Left, erased-some, as-after}
+use Rattle.runs.specs.Events.{Event, in-one, in-steps, fails, bufferIn, leftBy, imageAfterEvent, imageAfterEvents, TypedIn, typed-one, typed-steps, typed-fails, callOf, SparesIn, its-call-spares, untouched, SparesThrough, Left, erased-some, as-after}
 use Rattle.runs.proofs.Runs.{run-middle, image-end}
 use Rattle.runs.proofs.Erases.{Writes, Middle, so-far, all-done, middle, call-writes}
 
@@ -54,6 +54,11 @@ module _ {s n : ℕ} {image : List ℕ} (w : WellFormed s n image) where
   erased-none zero = refl
   erased-none (suc k) = refl
 
+  -- a start that refuses leaves all
+  none-done : (c : Call) → Left c image s n image
+  unfolding eraseAll
+  none-done c = erased-some 0 refl
+
   below : (t : Bool) → Every (λ (q : ℕ). q < n) (cond t (numbers 0 n) [])
   below true = rw zero-add at (numbers-below 0 n)
   below false = Every.none
@@ -80,27 +85,36 @@ module _ {s n : ℕ} {image : List ℕ} (w : WellFormed s n image) where
       go collect q = collect-broken w k .1 key value .1 b
       go (initialise main) (spares-initialise q) = rw (q, erased-none k) b
 
-  -- After an event.
-  pub event-well : (v : Event) {key : ℕ} → SparesIn s n key image v → WellFormed s n (imageAfterEvent s n v image)
-  event-well (in-one c) (one-spares t p) = call-keeps w c t
-  event-well (in-steps c region beats) (steps-spare t p l) = go (startOf c s n) refl
+  -- After an event: its call in one go, or where its operation stands, and a service that fails alters nothing more.
+  pub event-left : (v : Event) → TypedIn s v → Typed (callOf v) × Left (callOf v) image s n (imageAfterEvent s n v image)
+  event-left (in-one c) (typed-one t) = (t, as-after refl)
+  event-left (in-steps c region beats) (typed-steps t l) = (t, go (startOf c s n) refl)
     where
-      go : (a : Start) → startOf c s n ≡ a → WellFormed s n (leftBy s c region beats image a)
-      go (Start.Runs op) e = left-well c t (run-left c op image region (valueOf c) (bufferIn c) s n e (w .fits) l (lends-own c) beats)
-      go (Start.Refused r) e = w
+      go : (a : Start) → startOf c s n ≡ a → Left c image s n (leftBy s c region beats (λ (h : Host). h) image a)
+      go (Start.Runs op) e = run-left c op image region (valueOf c) (bufferIn c) s n e (w .fits) l (lends-own c) beats
+      go (Start.Refused r) e = none-done c
+  event-left (fails c region beats bytes) (typed-fails t l) = (t, go (startOf c s n) refl)
+    where
+      go : (a : Start) → startOf c s n ≡ a → Left c image s n (leftBy s c region beats (failed bytes) image a)
+      go (Start.Runs op) e = run-left c op image region (valueOf c) (bufferIn c) s n e (w .fits) l (lends-own c) beats
+      go (Start.Refused r) e = none-done c
 
-  pub event-bound : (v : Event) (key : ℕ) → SparesIn s n key image v → (value : List ℕ) → Bound s n image key value → Bound s n (imageAfterEvent s n v image) key value
-  event-bound (in-one c) key (one-spares t p) value b = call-holds w c t key p value b
-  event-bound (in-steps c region beats) key (steps-spare t p l) value b = go (startOf c s n) refl
-    where
-      go : (a : Start) → startOf c s n ≡ a → Bound s n (leftBy s c region beats image a) key value
-      go (Start.Runs op) e = left-bound c t key p value b (run-left c op image region (valueOf c) (bufferIn c) s n e (w .fits) l (lends-own c) beats)
-      go (Start.Refused r) e = b
+  pub event-well : (v : Event) → TypedIn s v → WellFormed s n (imageAfterEvent s n v image)
+  event-well v t = let (typed, l) = event-left v t in left-well (callOf v) typed l
+
+  pub event-bound : (v : Event) → TypedIn s v → (key : ℕ) → SparesIn s n key image v → (value : List ℕ) → Bound s n image key value → Bound s n (imageAfterEvent s n v image) key value
+  event-bound v t key (its-call-spares p) value b = let (typed, l) = event-left v t in left-bound (callOf v) typed key p value b l
+  event-bound v t key (untouched e) value b = rw e b
 
 -- over a list of events
+pub events-well : (s n : ℕ) (vs : List Event) (image : List ℕ) → WellFormed s n image → Every (TypedIn s) vs → WellFormed s n (imageAfterEvents s n vs image)
+unfolding imageAfterEvents
+events-well s n [] image w Every.none = w
+events-well s n (v ∷ vs) image w (Every.also t ts) = events-well s n vs (imageAfterEvent s n v image) (event-well w v t) ts
+
 pub events-hold : (s n key : ℕ) (value : List ℕ) (vs : List Event) (image : List ℕ) → WellFormed s n image → Bound s n image key value → SparesThrough s n key image vs
     → WellFormed s n (imageAfterEvents s n vs image) × Bound s n (imageAfterEvents s n vs image) key value
 unfolding imageAfterEvents
 events-hold s n key value [] image w b SparesThrough.none = (w, b)
-events-hold s n key value (v ∷ vs) image w b (SparesThrough.also p rest) =
-    events-hold s n key value vs (imageAfterEvent s n v image) (event-well w v p) (event-bound w v key p value b) rest
+events-hold s n key value (v ∷ vs) image w b (SparesThrough.also t p rest) =
+    events-hold s n key value vs (imageAfterEvent s n v image) (event-well w v t) (event-bound w v t key p value b) rest

@@ -46,8 +46,9 @@ use Rattle.running.specs.declared.Request.{Request}
 use Rattle.running.specs.Starts.{startRefusal}
 use Rattle.runs.specs.Host.{Lends, lends-get, lends-append, lends-remove, lends-collect, lends-initialise, bufferOf}
 use Rattle.runs.specs.Services.{unlessRefused, reads, edits, readsAndEdits, collectServices, anewServices, services, hitBytes, bytesWritten}
-use Rattle.stepwise.specs.Begins.{keyOf, lentOf, firstOf}
-use Rattle.runs.proofs.Rests.{own, given-rests, filled-rests}
+use Rattle.stepwise.specs.Begins.{keyCarried, lentOf, firstOf}
+use Rattle.stepwise.proofs.Forms.{given-rests, filled-rests}
+use Rattle.runs.proofs.Rests.{own}
 use Rattle.runs.proofs.Comes.{Out, out, Comes, over}
 use Rattle.runs.proofs.Plans.{Near, near-live, near-bad, near-end, All-serve, Planned, does, carries, looks, sweeps}
 
@@ -236,8 +237,8 @@ module _ (s n key : ℕ) (value image buffer : List ℕ) (f : Fits image s n) wh
 abbrev pub outOf : Call → List ℕ → ℕ → ℕ → List ℕ → Out
 outOf c image s n buffer = out (answerOf c image s n) (imageAfter c image s n) (bufferOf c image s n buffer)
 
-pub comes : (c : Call) (s n : ℕ) (value image buffer : List ℕ) → Fits image s n → Lends c value buffer → startRefusal s n (keyOf c) (valueLent (lentOf c)) ≡ Check.Fine
-    → Comes s n (keyOf c) (lentOf c) value (bytesWritten c image s n) (follows (firstOf c)) image buffer (services c image s n) (outOf c image s n buffer)
+pub comes : (c : Call) (s n : ℕ) (value image buffer : List ℕ) → Fits image s n → Lends c value buffer → startRefusal s n (keyCarried c) (valueLent (lentOf c)) ≡ Check.Fine
+    → Comes s n (keyCarried c) (lentOf c) value (bytesWritten c image s n) (follows (firstOf c)) image buffer (services c image s n) (outOf c image s n buffer)
 unfolding services appendOf removeOf collectOf initialiseOf
 comes (get key same) s n value image buffer f lends-get h =
     let fine = first-fine key 0 f h in

@@ -20,6 +20,7 @@ use Rattle.running.specs.declared.Request.{Request}
 use Rattle.running.specs.Waits.{waitFirst, waitOf, requestEdit, requestFor}
 use Rattle.advancing.specs.Advance.{nextPlan, bufferOn}
 use Rattle.stepwise.specs.Asked.{asks}
+use Rattle.stepwise.proofs.Misfits.{edit-asks as serves-edit}
 use Rattle.laying.specs.Lend.{laid}
 use Rattle.runs.specs.Host.{Host, Run, Beat, ready, waiting, Same, serviceDone, imageServed, regionServed, regionMeanwhile, logged, beat, drive, readies}
 use Rattle.runs.specs.Services.{servicesDone}
@@ -105,11 +106,6 @@ module _ (s n key : ℕ) (lent : Lent) (value : List ℕ) (bytes : List ℕ) whe
   read-asks : (c : Conf) (r : ℕ) → waitOf (opAt s n key lent value (c .plan)) ≡ Wait.Read r → asked c ≡ Request.Read r
   read-asks c r h = ap (requestFor s (valueLent lent)) h
 
-  serves-edit : (e : Edit) → asks (requestEdit s (valueLent lent) e) ≡ true
-  serves-edit (Edit.Lay r o) = refl
-  serves-edit (Edit.Kill how r x) = refl
-  serves-edit (Edit.Erase r) = refl
-
   -- From a place to the one behind its first service.
   next-beat : (beats : List Beat) (c : Conf) (q : Request) {image image′ : List ℕ} {rs : List Request} {o : Out} → Good s n key lent value c → asked c ≡ q → asks q ≡ true
       → image′ ≡ serviceDone s bytes q image
@@ -124,10 +120,10 @@ module _ (s n key : ℕ) (lent : Lent) (value : List ℕ) (bytes : List ℕ) whe
   stands beats c g ep ei eb (over {a = a} h) =
       let says : asked c ≡ Request.Answers a = ap (λ (p : Plan). requestFor s (valueLent lent) (waitOf (opAt s n key lent value p))) ep ∙ ap (requestFor s (valueLent lent)) h in
       rw (idle beats (rest-of c) (ap asks says)) (ended (omega arith) says ei eb refl)
-  stands [] c g ep ei eb (edit {e = e} h d r) = goes-on (omega arith) (ap asks (edit-asks c e (ap (λ (p : Plan). first (p .edits)) ep ∙ h)) ∙ serves-edit e) refl ei
+  stands [] c g ep ei eb (edit {e = e} h d r) = goes-on (omega arith) (ap asks (edit-asks c e (ap (λ (p : Plan). first (p .edits)) ep ∙ h)) ∙ serves-edit s (valueLent lent) e) refl ei
   stands [] c g ep ei eb (read {r = q} h r) = goes-on (omega arith) (ap asks (read-asks c q (ap (λ (p : Plan). waitOf (opAt s n key lent value p)) ep ∙ h))) refl ei
   stands (waiting b ∷ beats) c g ep ei eb (edit {e = e} h d r) =
-      let w = ap asks (edit-asks c e (ap (λ (p : Plan). first (p .edits)) ep ∙ h)) ∙ serves-edit e in
+      let w = ap asks (edit-asks c e (ap (λ (p : Plan). first (p .edits)) ep ∙ h)) ∙ serves-edit s (valueLent lent) e in
       rw (wait-beat b beats c g w) (stands beats (while b c) (good-meanwhile s n key lent value b c g) ep ei eb (edit h d r))
   stands (waiting b ∷ beats) c g ep ei eb (read {r = q} h r) =
       let w = ap asks (read-asks c q (ap (λ (p : Plan). waitOf (opAt s n key lent value p)) ep ∙ h)) in
@@ -135,7 +131,7 @@ module _ (s n key : ℕ) (lent : Lent) (value : List ℕ) (bytes : List ℕ) whe
   stands (ready ∷ beats) c {image = image} g ep ei eb (edit {e = e} h d r) =
       let h′ : first (c .plan .edits) ≡ First.Do e = ap (λ (p : Plan). first (p .edits)) ep ∙ h in
       let l = edit-leads s n key lent value c e g h′ in
-      next-beat beats c (requestEdit s (valueLent lent) e) g (edit-asks c e h′) (serves-edit e) (d image)
+      next-beat beats c (requestEdit s (valueLent lent) e) g (edit-asks c e h′) (serves-edit s (valueLent lent) e) (d image)
       (stands beats (after c) (good-onward s n key lent value c g) (l .plan-is ∙ ap left ep) (l .image-is ∙ ap (edited s key (own s n key lent value) e) ei) (l .buffer-is ∙ eb) r)
   stands (ready ∷ beats) c g ep ei eb (read {r = q} h r) =
       let h′ : waitOf (opAt s n key lent value (c .plan)) ≡ Wait.Read q = ap (λ (p : Plan). waitOf (opAt s n key lent value p)) ep ∙ h in

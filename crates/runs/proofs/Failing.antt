@@ -11,14 +11,16 @@ use Rattle.running.specs.declared.Reply.{Reply}
 use Rattle.running.specs.declared.Request.{Request}
 use Rattle.steps.specs.Step.{stepped, regionAfter, bufferAfter}
 use Rattle.stepwise.specs.Asked.{asks}
-use Rattle.runs.specs.Host.{Host, told}
-use Rattle.runs.proofs.Rests.{fit}
+use Rattle.runs.specs.Host.{Host, regionMeanwhile, failed}
+use Rattle.runs.proofs.Rests.{fit, meanwhile, good-meanwhile}
 use Rattle.runs.proofs.Comes.{Rested, at}
 
-pub failing : {s n key : ℕ} {lent : Lent} {value bytes : List ℕ} {before : Host} → Rested s n key lent value bytes before → asks (before .request) ≡ true
-    → let after = told (before .op) Reply.Failed (before .image) (before .region) (before .value) (before .buffer) in
-    (after .request ≡ Request.Answers (Refused Refusal.FlashFailed)) × (after .image ≡ before .image) × (after .region ≡ before .region) × (after .buffer ≡ before .buffer)
+pub failing : {s n key : ℕ} {lent : Lent} {value bytes : List ℕ} {before : Host} → Rested s n key lent value bytes before → asks (before .request) ≡ true → (brought : List ℕ)
+    → (failed brought before .request ≡ Request.Answers (Refused Refusal.FlashFailed))
+    × (failed brought before .image ≡ before .image)
+    × (failed brought before .region ≡ regionMeanwhile (before .request) brought (before .region))
+    × (failed brought before .buffer ≡ before .buffer)
 unfolding stepped regionAfter bufferAfter
-failing {s} {n} {key} {lent} {value} (at c g) w =
-    let f = fit s n key lent value c (c .region) g (g .long) w Reply.Failed refl in
+failing {s} {n} {key} {lent} {value} (at c g) w brought =
+    let f = fit s n key lent value c (meanwhile s n key lent value brought c .region) g (good-meanwhile s n key lent value brought c g .long) w Reply.Failed refl in
     (rw f, refl, rw f, rw f)

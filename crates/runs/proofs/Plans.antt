@@ -27,7 +27,6 @@ use Rattle.lookup.specs.declared.Turn.{Turn}
 use Rattle.refusals.specs.Refusals.{refusalOf}
 use Rattle.lookup.specs.Gather.{unseen}
 use Rattle.lookup.specs.Turns.{turn, close, onTurn, lookFrom, lookupIn, readFrom}
-use Rattle.plans.specs.declared.Answer.the-variants.{Freed}
 use Rattle.plans.specs.declared.Aim.{Aim}
 use Rattle.plans.specs.declared.Lent.{Lent}
 use Rattle.plans.specs.declared.Edit.{Edit}
@@ -47,7 +46,8 @@ use Rattle.running.specs.declared.Request.{Request}
 use Rattle.running.specs.Waits.{waitNext, waitFirst, requestEdit}
 use Rattle.advancing.specs.Advance.{closes, turnedTo, advanceNext, advanceFirst, given, filled}
 use Rattle.runs.specs.Services.{reads, edits, collectServices}
-use Rattle.runs.proofs.Rests.{opAt, own, given-rests, filled-rests}
+use Rattle.stepwise.proofs.Forms.{by-swept, given-rests, filled-rests}
+use Rattle.runs.proofs.Rests.{opAt, own}
 use Rattle.runs.proofs.Comes.{Out, out, Serves, Comes, over, edit, read}
 
 -- A live record that a lookup ends at lies in the region that was read last.
@@ -251,11 +251,7 @@ module _ (s n key : ℕ) (lent : Lent) (value : List ℕ) (bytes : List ℕ) whe
     swept-on (suc d) i k image h ih = rw (lt-ltb i n (omega arith)) (ih k image (omega arith))
 
     swept-rests : (i k : ℕ) → rests First.Nothing (sweptTo s n i k) ≡ true
-    swept-rests i k = go (ltb i n)
-      where
-        go : (t : Bool) → rests First.Nothing (cond t (Then.Sweep i k) (Then.Ends (Freed (k * s)))) ≡ true
-        go true = refl
-        go false = refl
+    swept-rests i k = by-swept (λ (t : Then). rests First.Nothing t ≡ true) s n i k refl refl
 
     -- nothing is given, whatever the verdict
     verdict-rests : (i k : ℕ) (v : Verdict) → rests First.Nothing (sweepPlan s n i k v .next) ≡ true

@@ -27,7 +27,7 @@ use Rattle.running.specs.declared.Op.{Op}
 use Rattle.running.specs.declared.Start.{Start}
 use Rattle.running.specs.declared.Request.{Request}
 use Rattle.running.specs.Starts.{startRefusal, startedOr}
-use Rattle.stepwise.specs.Begins.{startOf, keyOf, lentOf, freshOf}
+use Rattle.stepwise.specs.Begins.{startOf, keyCarried, lentOf, freshOf}
 use Rattle.stepwise.proofs.Starts.{starts-so}
 use Rattle.runs.specs.Services.{unlessRefused, collectServices, services}
 use Rattle.runs.proofs.Comes.{Out, out}
@@ -81,8 +81,8 @@ module _ (image : List ℕ) (s n : ℕ) (size : length image ≡ n * s) (w : Ref
   asks-none : (asked : List Request) {c : Check} {o left : Out} → c ≡ Check.Refused w → o ≡ left → listed (unlessRefused c asked) o ≡ listed [] left
   asks-none asked e h = λ i. listed (unlessRefused (e i) asked) (h i)
 
-  refused-by : (c : Call) (buffer : List ℕ) → startRefusal s n (keyOf c) (valueLent (lentOf c)) ≡ Check.Refused w
-      → firstRefusal image s n (keyOf c) (valueLent (lentOf c)) ≡ Check.Refused w
+  refused-by : (c : Call) (buffer : List ℕ) → startRefusal s n (keyCarried c) (valueLent (lentOf c)) ≡ Check.Refused w
+      → firstRefusal image s n (keyCarried c) (valueLent (lentOf c)) ≡ Check.Refused w
       → listed (services c image s n) (outOf c image s n buffer) ≡ listed [] (out (Refused w) image buffer)
   unfolding services appendOf removeOf hitOf collectOf initialiseOf geometry applied
   refused-by (get key same) buffer q e = asks-none _ e (λ i. out (got-refused key same e i .answer) image (got-refused key buffer e i .buffer))
@@ -104,5 +104,5 @@ module _ (image : List ℕ) (s n : ℕ) (size : length image ≡ n * s) (w : Ref
   pub refused-so : (c : Call) (buffer : List ℕ) → startOf c s n ≡ Start.Refused w
       → listed (services c image s n) (outOf c image s n buffer) ≡ listed [] (out (Refused w) image buffer)
   refused-so c buffer h =
-      let q = refuses (freshOf c s n) (startRefusal s n (keyOf c) (valueLent (lentOf c))) (sym (starts-so c s n) ∙ h) in
-      refused-by c buffer q (first-same image s n (keyOf c) (valueLent (lentOf c)) size ∙ q)
+      let q = refuses (freshOf c s n) (startRefusal s n (keyCarried c) (valueLent (lentOf c))) (sym (starts-so c s n) ∙ h) in
+      refused-by c buffer q (first-same image s n (keyCarried c) (valueLent (lentOf c)) size ∙ q)

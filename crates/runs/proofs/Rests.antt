@@ -21,7 +21,7 @@ use Rattle.plans.specs.declared.First.{First}
 use Rattle.plans.specs.declared.Then.{Then}
 use Rattle.plans.specs.declared.Plan.{Plan}
 use Rattle.plans.specs.Writes.{valueLent, valueOf, startOf, bytesOf, sizeOf, edited, laidIn, first, rest}
-use Rattle.plans.specs.Fits.{editFits, thenFits, rests}
+use Rattle.plans.specs.Fits.{editFits, thenFits}
 use Rattle.plans.proofs.Facts.{in-chip, edits-facts}
 use Rattle.plans.proofs.Laid.{laid-length, laid-there}
 use Rattle.values.specs.Values.{readBuffer}
@@ -31,7 +31,7 @@ use Rattle.running.specs.declared.Wait.{Wait}
 use Rattle.running.specs.declared.Request.{Request}
 use Rattle.running.specs.Waits.{waitFirst, waitOf, requestEdit, requestFor, requestOf}
 use Rattle.running.specs.Ruled.{Ruled}
-use Rattle.rule.specs.Rule.{serves, replyFits, buffersFit}
+use Rattle.rule.specs.Rule.{serves, buffersFit}
 use Rattle.running.proofs.Rules.{plan-of}
 use Rattle.rule.proofs.Calls.{fits-of, value-lent}
 use Rattle.advancing.specs.Advance.{advanceFirst, advance, given, filled, filledBy, copied, nextPlan, bufferOn}
@@ -40,7 +40,9 @@ use Rattle.steps.specs.Step.{fitsHere, stepped, regionAfter, bufferAfter}
 use Rattle.advancing.proofs.Keeps.{advance-gives}
 use Rattle.steps.proofs.Keeps.{next-ruled}
 use Rattle.stepwise.specs.Asked.{Inside, reads, asks}
+use Rattle.stepwise.proofs.Forms.{given-rests, filled-rests}
 use Rattle.stepwise.proofs.Starts.{inside}
+use Rattle.stepwise.proofs.Misfits.{asks-fits}
 use Rattle.runs.specs.Host.{Host, imageServed, regionServed, regionMeanwhile, waited, served}
 
 -- What is left of the plan, the image, and the two buffers; geometry, key and what is lent never change.
@@ -56,26 +58,6 @@ conf plan image region buffer = record { plan = plan; image = image; region = re
 -- an edit is off the list
 abbrev pub left : Plan → Plan
 left p = record { edits = rest (p .edits); next = p .next }
-
--- Where an operation rests nothing is to be given.
-module _ (n : ℕ) (lent : Lent) (region : List ℕ) (f : First) (p : Plan) (h : rests f (p .next) ≡ true) where
-  pub given-rests : given n lent region p ≡ p
-  given-rests = go (p .next) refl h
-    where
-      go : (t : Then) → p .next ≡ t → rests f t ≡ true → given n lent region p ≡ p
-      go (Then.Ends answer) e h = rw e
-      go (Then.Seek aim i seen) e h = rw e
-      go (Then.Sweep r k) e h = rw e
-      go (Then.Gives r x anew) e h = absurd (let z : _≡_ {A = ℕ} 0 1 = cc in omega arith)
-
-  pub filled-rests : (buffer : List ℕ) → filled lent region p buffer ≡ buffer
-  filled-rests buffer = go (p .next) h
-    where
-      go : (t : Then) → rests f t ≡ true → filledBy lent region t buffer ≡ buffer
-      go (Then.Ends answer) h = refl
-      go (Then.Seek aim i seen) h = refl
-      go (Then.Sweep r k) h = refl
-      go (Then.Gives r x anew) h = absurd (let z : _≡_ {A = ℕ} 0 1 = cc in omega arith)
 
 -- Buffers keep their lengths.
 
@@ -134,13 +116,6 @@ edit-served s len key value (Edit.Kill how r x) region image h =
     rw (add-sub-cancel-left (startOf e) (sizeOf len e)) (ap (written image (r * s + startOf e)) h)
 edit-served s len key value (Edit.Erase r) region image h = refl
 
--- a reply that says how a service went fits where one is asked for
-apt : (s len : ℕ) (w : Wait) (y : Reply) → asks (requestFor s len w) ≡ true → serves y ≡ true → replyFits w y ≡ true
-apt s len Wait.Begin y e f = absurd (let z : _≡_ {A = ℕ} 0 1 = cc in omega arith)
-apt s len (Wait.Read r) y e f = f
-apt s len (Wait.Edit d) y e f = f
-apt s len (Wait.Over answer) y e f = absurd (let z : _≡_ {A = ℕ} 0 1 = cc in omega arith)
-
 module _ (s n key : ℕ) (lent : Lent) (value : List ℕ) where
   abbrev pub opAt : Plan → Op
   opAt p = record { s = s; n = n; key = key; lent = lent; fresh = false; plan = p }
@@ -190,7 +165,7 @@ module _ (s n key : ℕ) (lent : Lent) (value : List ℕ) where
   pub fit : (c : Conf) (region : List ℕ) → Good c → length region ≡ s → asks (requestAt c) ≡ true → (y : Reply) → serves y ≡ true
       → fitsHere (opAt (c .plan)) y region value (c .buffer) ≡ true
   fit c region g l w y e =
-      fits-of (opAt (c .plan)) y (length region) (length value) (length (c .buffer)) (g .kept, l, g .lends, apt s (valueLent lent) (waitOf (opAt (c .plan))) y w e)
+      fits-of (opAt (c .plan)) y (length region) (length value) (length (c .buffer)) (g .kept, l, g .lends, asks-fits s (valueLent lent) (waitOf (opAt (c .plan))) y w e)
 
   then-long : (c : Conf) → Good c → length (regionThen c) ≡ s
   then-long c g = region-long s n (requestAt c) (c .region) (c .image) (inside (opAt (c .plan)) (g .kept)) (g .long) (g .fits)

@@ -25,7 +25,7 @@ use Rattle.rule.proofs.Calls.{fits-of}
 use Rattle.laying.specs.Lend.{laid}
 use Rattle.steps.specs.Step.{stepped, regionAfter, bufferAfter}
 use Rattle.stepwise.specs.Asked.{asks}
-use Rattle.stepwise.specs.Begins.{startOf, keyOf, lentOf, firstOf, freshOf}
+use Rattle.stepwise.specs.Begins.{startOf, keyCarried, lentOf, firstOf, freshOf}
 use Rattle.stepwise.proofs.Starts.{start-ruled, start-runs}
 use Rattle.runs.specs.Host.{Run, Beat, ready, Same, begun, drive, readies, Lends, lends-get, lends-append, lends-remove, lends-collect, lends-initialise}
 use Rattle.runs.specs.Services.{services, bytesWritten, servicesDone, Ends}
@@ -67,29 +67,29 @@ module _ (c : Call) (op : Op) (image region value buffer : List ℕ) (s n : ℕ)
   fresh = subst Ruled (start-runs c s n op starts .is) (start-ruled c s n starts)
 
   abbrev rest-first : Conf
-  rest-first = first-rest s n (keyOf c) (lentOf c) (firstOf c) image region value buffer fresh long (lends-fit c value buffer lends)
+  rest-first = first-rest s n (keyCarried c) (lentOf c) (firstOf c) image region value buffer fresh long (lends-fit c value buffer lends)
 
-  rests : begun op image region value buffer ≡ at-rest s n (keyOf c) (lentOf c) value rest-first
+  rests : begun op image region value buffer ≡ at-rest s n (keyCarried c) (lentOf c) value rest-first
   rests =
       ap (λ (o : Op). begun o image region value buffer) (start-runs c s n op starts .is)
-      ∙ begin-law s n (keyOf c) (lentOf c) (firstOf c) image region value buffer fresh long (lends-fit c value buffer lends)
+      ∙ begin-law s n (keyCarried c) (lentOf c) (firstOf c) image region value buffer fresh long (lends-fit c value buffer lends)
 
-  good : Good s n (keyOf c) (lentOf c) value rest-first
-  good = good-first s n (keyOf c) (lentOf c) (firstOf c) image region value buffer fresh long (lends-fit c value buffer lends) fits
+  good : Good s n (keyCarried c) (lentOf c) value rest-first
+  good = good-first s n (keyCarried c) (lentOf c) (firstOf c) image region value buffer fresh long (lends-fit c value buffer lends) fits
 
   pub run-unwaited : (beats : List Beat) → Same (drive s beats (begun op image region value buffer)) (drive s (replicate (readies beats) ready) (begun op image region value buffer))
-  run-unwaited beats = rw rests (unwaited s n (keyOf c) (lentOf c) value (bytesWritten c image s n) beats rest-first good good same)
+  run-unwaited beats = rw rests (unwaited s n (keyCarried c) (lentOf c) value (bytesWritten c image s n) beats rest-first good good same)
 
-  whole : Comes s n (keyOf c) (lentOf c) value (bytesWritten c image s n) (follows (firstOf c)) image buffer (services c image s n) (outOf c image s n buffer)
+  whole : Comes s n (keyCarried c) (lentOf c) value (bytesWritten c image s n) (follows (firstOf c)) image buffer (services c image s n) (outOf c image s n buffer)
   whole = comes c s n value image buffer fits lends (start-runs c s n op starts .fine)
 
   run-stands : (beats : List Beat)
       → Stands s (bytesWritten c image s n) (readies beats) image (services c image s n) (outOf c image s n buffer) (drive s beats (begun op image region value buffer))
-  run-stands beats = rw rests (stands s n (keyOf c) (lentOf c) value (bytesWritten c image s n) beats rest-first good refl refl refl whole)
+  run-stands beats = rw rests (stands s n (keyCarried c) (lentOf c) value (bytesWritten c image s n) beats rest-first good refl refl refl whole)
 
   -- the image at the end is the one before with all the services done
   pub image-end : imageAfter c image s n ≡ servicesDone s (bytesWritten c image s n) (services c image s n) image
-  image-end = image-comes s n (keyOf c) (lentOf c) value (bytesWritten c image s n) whole
+  image-end = image-comes s n (keyCarried c) (lentOf c) value (bytesWritten c image s n) whole
 
   pub run-ends : (beats : List Beat) → length (services c image s n) ≤ readies beats → Ends c image s n buffer (drive s beats (begun op image region value buffer))
   run-ends beats h = go (run-stands beats)
@@ -122,5 +122,5 @@ module _ (c : Call) (op : Op) (image region value buffer : List ℕ) (s n : ℕ)
       go (ended l a i b d) = (d ∙ sym (all l), i ∙ image-end ∙ ap (λ (qs : List Request). servicesDone s (bytesWritten c image s n) qs image) (sym (all l)))
 
   -- A host that lends the same buffers each time: value and buffers of a run are never changed in length, and an operation that asks keeps the rule.
-  pub run-rests : (beats : List Beat) → Rested s n (keyOf c) (lentOf c) value (bytesWritten c image s n) (drive s beats (begun op image region value buffer) .host)
-  run-rests beats = rw rests (all-rest s n (keyOf c) (lentOf c) value (bytesWritten c image s n) beats rest-first good)
+  pub run-rests : (beats : List Beat) → Rested s n (keyCarried c) (lentOf c) value (bytesWritten c image s n) (drive s beats (begun op image region value buffer) .host)
+  run-rests beats = rw rests (all-rest s n (keyCarried c) (lentOf c) value (bytesWritten c image s n) beats rest-first good)

@@ -14,6 +14,7 @@ use mathlib.Core.List.{List, [], _∷_, _++_, map}
 use mathlib.Core.Logic.{inl}
 use lib.ListN.{length, take, drop, replicate}
 use Rattle.chip.specs.Chip.{Bytes, erased}
+use Rattle.chip.specs.Every.{Every}
 use Rattle.chip.specs.Geometry.{Fits, numbers}
 use Rattle.probe.specs.Probe.{probes}
 use Rattle.format.specs.declared.Record.{Record}
@@ -35,20 +36,20 @@ use Rattle.bindings.specs.Calls.{Typed, Spares, OnlyCleared}
 use Rattle.bindings.proofs.Bits.{same-cleared}
 use Rattle.bindings.proofs.Theorems.{stays-well-formed, append-adds, initialise-makes-well-formed, get-finds, write-only-clears}
 use Rattle.running.specs.declared.Start.{Start}
-use Rattle.running.specs.declared.Reply.{Reply}
 use Rattle.running.specs.declared.Request.{Request}
 use Rattle.stepwise.specs.Asked.{asks}
 use Rattle.stepwise.specs.Begins.{startOf, freshOf}
 use Rattle.stepwise.specs.Ahead.{most}
 use Rattle.stepwise.proofs.Begins.{runs-else}
-use Rattle.runs.specs.Host.{Run, Beat, ready, Same, serviceDone, told, begun, drive, readies, Lends, lends-get, bufferOf}
+use Rattle.runs.specs.Host.{Run, Beat, ready, Same, serviceDone, regionMeanwhile, failed, begun, drive, readies, Lends, lends-get, bufferOf}
 use Rattle.runs.specs.Services.{services, bytesWritten, servicesDone, erasesIn, erasesOf, UpTo, Sweeps, Ends}
-use Rattle.runs.specs.Events.{Event as Happening, imageAfterEvents, SparesThrough, Left, Found}
+use Rattle.runs.specs.Events.{Event as Happening, imageAfterEvent, imageAfterEvents, TypedIn, callOf, its-call-spares, SparesThrough, Left, Found}
 use Rattle.runs.proofs.Runs.{run-unwaited, run-ends, run-goes-on, run-middle, run-rests, image-end}
 use Rattle.runs.proofs.Refuses.{Listed, refused-so}
-use Rattle.runs.proofs.Bounds.{bound, most-any}
+use Rattle.stepwise.proofs.Falls.{most-any}
+use Rattle.runs.proofs.Bounds.{bound}
 use Rattle.runs.proofs.Erases.{call-writes}
-use Rattle.runs.proofs.Broken.{run-left, left-well, left-bound, events-hold}
+use Rattle.runs.proofs.Broken.{run-left, event-well, event-bound, events-well, events-hold}
 use Rattle.runs.proofs.Lists as Lists
 use Rattle.runs.proofs.Failing.{failing}
 
@@ -99,12 +100,15 @@ module _ (c : Call) (image region value buffer : List ℕ) (s n : ℕ) (reads : 
   pub image-after-all : imageAfter c image s n ≡ servicesDone s (bytesWritten c image s n) (services c image s n) image
   image-after-all = image-end c (freshOf c s n) image region value buffer s n starts (reads .fits) long lends
 
-  -- A failed service in the middle of a run ends it with FlashFailed, never with BadCall, and alters neither image nor buffers.
-  pub fails-in-the-middle : (beats : List Beat) → asks (run beats .host .request) ≡ true
+  -- A failed service in the middle of a run ends it with FlashFailed, never with BadCall, and the step alters no buffer; if nothing of the service was
+  -- done, but for the bytes that a read may have brought, the image is as it was.
+  pub fails-in-the-middle : (beats : List Beat) → asks (run beats .host .request) ≡ true → (bytes : List ℕ)
       → let before = run beats .host in
-      let after = told (before .op) Reply.Failed (before .image) (before .region) (before .value) (before .buffer) in
-      (after .request ≡ Request.Answers (Refused Refusal.FlashFailed)) × (after .image ≡ before .image) × (after .region ≡ before .region) × (after .buffer ≡ before .buffer)
-  fails-in-the-middle beats w = failing (run-rests c (freshOf c s n) image region value buffer s n starts (reads .fits) long lends beats) w
+      (failed bytes before .request ≡ Request.Answers (Refused Refusal.FlashFailed))
+      × (failed bytes before .image ≡ before .image)
+      × (failed bytes before .region ≡ regionMeanwhile (before .request) bytes (before .region))
+      × (failed bytes before .buffer ≡ before .buffer)
+  fails-in-the-middle beats w bytes = failing (run-rests c (freshOf c s n) image region value buffer s n starts (reads .fits) long lends beats) w bytes
 
   -- Broken off after any beats, by a host that goes no further or by a service that failed and was not done: so many of the call's erases are
   -- done, or all that the call does. Of a get, an append and a removal, which erase nothing, the image is as it was, or as the one-call form leaves it.
@@ -181,19 +185,28 @@ initialise-anew-services key image s n h = Lists.initialise-anew-list image s n 
 
 -- Operations that were not finished.
 
--- On a well-formed image one that is broken off leaves a well-formed image, and every binding that the whole operation would have spared.
-pub broken-off-keeps : {s n : ℕ} {image : List ℕ} → WellFormed s n image → (c : Call) → Typed c → (image′ : List ℕ) → Left c image s n image′
-    → WellFormed s n image′ × ((key : ℕ) (value : List ℕ) → Spares s n key image c → Bound s n image key value → Bound s n image′ key value)
-broken-off-keeps w c t image′ l = (left-well w c t l, λ key value p b. left-bound w c t key p value b l)
+-- On a well-formed image an operation that is broken off after any beats, or that a failed service ends, leaves a well-formed image and every binding
+-- that the whole operation would have spared.
+pub broken-off-keeps : {s n : ℕ} {image : List ℕ} → WellFormed s n image → (v : Happening) → TypedIn s v
+    → WellFormed s n (imageAfterEvent s n v image)
+    × ((key : ℕ) (value : List ℕ) → Spares s n key image (callOf v) → Bound s n image key value → Bound s n (imageAfterEvent s n v image) key value)
+broken-off-keeps w v t = (event-well w v t, λ key value p b. event-bound w v t key (its-call-spares p) value b)
+
+-- So an image stays well-formed over any list of calls and operations, finished or not.
+pub events-stay-well-formed : {s n : ℕ} {image : List ℕ} → WellFormed s n image → (events : List Happening) → Every (TypedIn s) events
+    → WellFormed s n (imageAfterEvents s n events image)
+events-stay-well-formed {s} {n} {image} w events t = events-well s n events image w t
 
 -- "So a stored record is found within N region reads, into a buffer long enough, until its own key is removed or initialise erases the chip": any
--- bound record, after any list of calls in one go and of operations taken one service at a time, finished or broken off. (What a write leaves that
--- failed and wrote a part is not said here.)
+-- bound record, after any list of calls in one go and of operations taken one service at a time, finished, broken off, or ended by a failed service of
+-- which nothing was done. (What a write or an erase leaves that failed and did a part is not said here.)
 pub bound-is-found : {s n : ℕ} {image : List ℕ} → WellFormed s n image → (key : ℕ) (value : List ℕ) → Bound s n image key value
     → (events : List Happening) → SparesThrough s n key image events
     → (buffer region lent : List ℕ) → length value ≤ length buffer → length region ≡ s
     → Found s n (imageAfterEvents s n events image) key value buffer region lent
 bound-is-found {s} {n} {image} w key value b events p buffer region lent l long = record {
+  well-formed = held .0;
+  bound = held .1;
   in-one-go = found;
   starts = starts (get key buffer) later region lent buffer s n reads long lends-get;
   few = few;
@@ -206,8 +219,11 @@ bound-is-found {s} {n} {image} w key value b events p buffer region lent l long 
     later : List ℕ
     later = imageAfterEvents s n events image
 
+    held : WellFormed s n later × Bound s n later key value
+    held = events-hold s n key value events image w b p
+
     found : getOf later s n key buffer ≡ record { answer = Complete (length value); buffer = value ++ drop (length value) buffer }
-    found = let (last, held) = events-hold s n key value events image w b p in get-finds last key value buffer held l
+    found = get-finds (held .0) key value buffer (held .1) l
 
     reads : Reads later s n (get key buffer)
     reads = reads-if later s n (get key buffer) (ap (λ (g : Got). refusal (g .answer)) found)

@@ -82,6 +82,10 @@ waited bytes h = told (h .op) Reply.NotReady (h .image) (regionMeanwhile (h .req
 abbrev pub served : ℕ → Host → Host
 served s h = told (h .op) Reply.Done (imageServed s (h .request) (h .region) (h .image)) (regionServed s (h .request) (h .region) (h .image)) (h .value) (h .buffer)
 
+-- "failed": the service was not done, though a read may have brought some bytes
+abbrev pub failed : List ℕ → Host → Host
+failed bytes h = told (h .op) Reply.Failed (h .image) (regionMeanwhile (h .request) bytes (h .region)) (h .value) (h .buffer)
+
 -- where a run stands, and the services that it did
 pub record Run : Type 0 where
   pub host : Host

@@ -1,7 +1,7 @@
 -- Which edits and which ends the plan of a call's operation can have, after any replies and any lent bytes; so what it asks for, and whose bytes an
 -- append writes.
 -- Assumes nothing.
-use Prim.Native.Nat.{ℕ, _+_, _-_, _*_}
+use Prim.Native.Nat.{ℕ, _+_, _-_}
 use native.Mathlib.Omega.{arith}
 use mathlib.Core.Path.{_≡_, refl, sym, _∙_, ap, subst}
 use mathlib.Core.Bool.{Bool, true, false, cond}
@@ -19,7 +19,7 @@ use Rattle.lookup.specs.declared.Looked.{Looked}
 use Rattle.lookup.specs.declared.Turn.{Turn}
 use Rattle.lookup.specs.Turns.{turnOf}
 use Rattle.plans.specs.declared.Answer.{Answer}
-use Rattle.plans.specs.declared.Answer.the-variants.{Freed, Refused}
+use Rattle.plans.specs.declared.Answer.the-variants.{Refused}
 use Rattle.plans.specs.declared.Aim.{Aim}
 use Rattle.plans.specs.declared.Lent.{Lent}
 use Rattle.plans.specs.declared.Edit.{Edit}
@@ -44,8 +44,9 @@ use Rattle.running.specs.Waits.{waitNext, waitFirst, requestFor, requestOf}
 use Rattle.advancing.specs.Advance.{closes, turnedTo, advanceNext, advanceFirst, advance, givenBy, given, nextPlan}
 use Rattle.steps.specs.declared.Stepped.{Stepped}
 use Rattle.steps.specs.Step.{nextOp, fitsHere, stepped, regionAfter}
+use Rattle.stepwise.proofs.Forms.{Awaits, a-region, no-more, next-awaits, by-swept}
 use Rattle.stepwise.specs.Asked.{MayAsk, any-reads, any-answers, append-writes, removal-writes, collect-erases, initialise-erases, initialise-writes}
-use Rattle.stepwise.specs.Begins.{startOf, keyOf, lentOf, firstOf}
+use Rattle.stepwise.specs.Begins.{startOf, keyCarried, lentOf, firstOf}
 use Rattle.stepwise.specs.Ahead.{Given, next, after}
 use Rattle.stepwise.proofs.Starts.{start-runs}
 use Rattle.stepwise.proofs.Lays.{Leaves, waits, lays, steps, steps-leave}
@@ -125,11 +126,7 @@ turned-of k n i (Turn.More seen) = follows-of (it-looks k)
 -- A region is swept.
 
 swept-of : (s n r k : ℕ) → ThenOf collect (sweptTo s n r k)
-swept-of s n r k = go (ltb r n)
-  where
-    go : (t : Bool) → ThenOf collect (cond t (Then.Sweep r k) (Then.Ends (Freed (k * s))))
-    go true = collect-sweeps
-    go false = it-ends
+swept-of s n r k = by-swept (ThenOf collect) s n r k collect-sweeps it-ends
 
 sweep-of : (s n r k : ℕ) (v : Verdict) → PlanOf collect (sweepPlan s n r k v)
 sweep-of s n r k Verdict.Stands = follows-of (swept-of s n (r + 1) k)
@@ -189,7 +186,7 @@ replied-of op Reply.Failed region p = follows-of it-ends
 -- An operation of a call, with its size of a region, its key and what is lent for it: a start hands out one, and every step leaves one.
 record Of (c : Call) (s : ℕ) (op : Op) : Type 0 where
   same-s : op .s ≡ s
-  same-key : op .key ≡ keyOf c
+  same-key : op .key ≡ keyCarried c
   same-lent : op .lent ≡ lentOf c
   plan-is : PlanOf c (op .plan)
 
@@ -223,10 +220,11 @@ run-of c s n op h gs = after-of op gs (start-of c s n op h)
 -- What it asks for.
 
 next-asks : {c : Call} (s len key n : ℕ) (t : Then) → MayAsk s c (requestFor s len (waitNext key n t))
-next-asks s len key n (Then.Ends answer) = any-answers
-next-asks s len key n (Then.Seek aim i seen) = any-reads
-next-asks s len key n (Then.Sweep r k) = any-reads
-next-asks s len key n (Then.Gives r x again) = any-answers
+next-asks {c} s len key n t = go (next-awaits key n t)
+  where
+    go : {w : Wait} → Awaits w → MayAsk s c (requestFor s len w)
+    go a-region = any-reads
+    go no-more = any-answers
 
 edits-ask : {c : Call} {es : Edits} (s key n : ℕ) (t : Then) → EditsOf c es → MayAsk s c (requestFor s (valueLent (lentOf c)) (waitFirst key n (first es) t))
 edits-ask {c} s key n t none-left = next-asks s (valueLent (lentOf c)) key n t
@@ -262,8 +260,17 @@ append-leaves {value = value} {op = op} {y = y} o ready (lays w l) =
 
 -- So it is after any replies and any lent bytes.
 
-pub call-asks : (c : Call) (s n : ℕ) (op : Op) → startOf c s n ≡ Start.Runs op → (gs : List Given) → MayAsk s c (requestOf (after op gs))
-call-asks c s n op h gs = of-asks (run-of c s n op h gs)
+pub call-asks : (c : Call) (s n : ℕ) (op : Op) → startOf c s n ≡ Start.Runs op → (gs : List Given) (y : Reply) (region value buffer : List ℕ)
+    → MayAsk s c (stepped (after op gs) y region value buffer .request)
+unfolding stepped
+call-asks c s n op h gs y region value buffer = go (fitsHere (after op gs) y region value buffer)
+  where
+    go : (t : Bool)
+        → MayAsk s c
+        (cond {A = Stepped} t (record { op = nextOp (after op gs) y region; request = requestOf (nextOp (after op gs) y region) })
+        (record { op = after op gs; request = Request.Answers (Refused Refusal.BadCall) }) .request)
+    go true = of-asks (next-is-of y region (run-of c s n op h gs))
+    go false = any-answers
 
 pub append-lays-lent : (key : ℕ) (named : List ℕ) (s n : ℕ) (op : Op) → startOf (append key named) s n ≡ Start.Runs op → (gs : List Given)
     → (y : Reply) → (y ≡ Reply.NotReady → ⊥) → (region value buffer : List ℕ) {a e p : ℕ} → stepped (after op gs) y region value buffer .request ≡ Request.Write a e p

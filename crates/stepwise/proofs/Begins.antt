@@ -1,14 +1,13 @@
 -- What a start refuses: its three tests, and what each says of S, N, the key and the length of the value.
 -- Assumes nothing.
-use Prim.Native.Nat.{ℕ, _-_, _^_, _≤_, _<_}
+use Prim.Native.Nat.{ℕ, _<_}
 use native.Mathlib.Omega.{arith}
 use mathlib.Core.Path.{_≡_, refl, sym, _∙_, ap, subst}
-use mathlib.Core.Bool.{Bool, true, false, not, _&&_, cond}
+use mathlib.Core.Bool.{Bool, true, false, not, cond}
 use mathlib.Core.Option.{some}
-use mathlib.Core.Logic.{_↔_, inl, inr, ⊎-elim}
-use lib.Dec.{ltb, eqb}
+use mathlib.Core.Logic.{_↔_}
+use lib.Dec.{ltb}
 use lib.ListN.{length}
-use borrow.Author.Tests.{ltb-true, ltb-false, eqb-true, eqb-false}
 use Rattle.chip.specs.Geometry.{Shape, sized}
 use Rattle.chip.proofs.Image.{sized-shape, shape-sized}
 use Rattle.probe.specs.Probe.{allowedKey}
@@ -17,25 +16,14 @@ use Rattle.refusals.specs.declared.Refusal.{Refusal}
 use Rattle.refusals.specs.declared.Check.{Check}
 use Rattle.plans.specs.Writes.{valueLent}
 use Rattle.store.specs.Call.{Call, get, append, remove, collect, initialise, valueOf}
-use Rattle.pinned.specs.When.{Barred, BadKey}
-use Rattle.pinned.proofs.Early.{keyless}
+use Rattle.pinned.specs.When.{BadKey}
+use Rattle.pinned.proofs.Early.{Says, says-true, says-false, size-says, keyless}
+use Rattle.pinned.proofs.Early as Early
+use Rattle.running.specs.declared.Op.{Op}
 use Rattle.running.specs.declared.Start.{Start}
 use Rattle.running.specs.Starts.{startRefusal, startedOr}
-use Rattle.stepwise.specs.Begins.{startOf, StartWhen, bad-geometry, bad-key, object-too-large, Allowed, keyOf, lentOf, freshOf}
+use Rattle.stepwise.specs.Begins.{startOf, StartWhen, bad-geometry, bad-key, object-too-large, Allowed, keyCarried, lentOf, freshOf}
 use Rattle.stepwise.proofs.Starts.{starts-so}
-
--- a test, and what it says
-abbrev Says : Bool → Type 0 → Type 0
-Says true P = P
-Says false P = P → ⊥
-
-says-true : {P : Type 0} (b : Bool) → Says b P → P → b ≡ true
-says-true true h p = refl
-says-true false h p = absurd (h p)
-
-says-false : {P : Type 0} (b : Bool) → Says b P → (P → ⊥) → b ≡ false
-says-false true h p = absurd (p h)
-says-false false h p = refl
 
 shape-says : (s n : ℕ) → Says (sized s n) (Shape s n)
 shape-says s n = go (sized s n) refl
@@ -44,35 +32,13 @@ shape-says s n = go (sized s n) refl
     go true e = sized-shape e
     go false e = λ f. let z : true ≡ false = sym (shape-sized f) ∙ e in let y : _≡_ {A = ℕ} 0 1 = cc in omega arith
 
-barred-says : (key : ℕ) → Says (not (allowedKey key)) (Barred key)
-barred-says key = go (eqb key 0) refl (eqb key (2 ^ 64 - 1)) refl
-  where
-    go : (a : Bool) → eqb key 0 ≡ a → (b : Bool) → eqb key (2 ^ 64 - 1) ≡ b → Says (not (not a && not b)) (Barred key)
-    go true e b f = inl (eqb-true key 0 e)
-    go false e true f = inr (eqb-true key (2 ^ 64 - 1) f)
-    go false e false f = ⊎-elim (eqb-false key 0 e) (eqb-false key (2 ^ 64 - 1) f)
-
-own-says : (key : ℕ) → Says (not (allowedKey key)) ((k : ℕ) × (some key ≡ some k) × Barred k)
-own-says key = go (not (allowedKey key)) (barred-says key)
-  where
-    go : (b : Bool) → Says b (Barred key) → Says b ((k : ℕ) × (some key ≡ some k) × Barred k)
-    go true h = (key, refl, h)
-    go false h = λ (k, e, b). let same : k ≡ key = cc in h (subst Barred same b)
-
 -- collect carries 1, which is allowed, as its want of a key is
-key-says : (c : Call) → Says (not (allowedKey (keyOf c))) (BadKey c)
-key-says (get key buffer) = own-says key
-key-says (append key value) = own-says key
-key-says (remove how key) = own-says key
+key-says : (c : Call) → Says (not (allowedKey (keyCarried c))) (BadKey c)
+key-says (get key buffer) = Early.key-says (some key)
+key-says (append key value) = Early.key-says (some key)
+key-says (remove how key) = Early.key-says (some key)
 key-says collect = keyless
-key-says (initialise key) = own-says key
-
-size-says : (m : ℕ) → Says (ltb (largestValue edition) m) (largestValue edition < m)
-size-says m = go (ltb (largestValue edition) m) refl
-  where
-    go : (b : Bool) → ltb (largestValue edition) m ≡ b → Says b (largestValue edition < m)
-    go true e = ltb-true _ m e
-    go false e = λ l. let g : m ≤ largestValue edition = ltb-false _ m e in omega arith
+key-says (initialise key) = Early.key-says (some key)
 
 -- only append is lent a value
 value-named : (c : Call) → valueLent (lentOf c) ≡ length (valueOf c)
@@ -87,7 +53,7 @@ large-says c = subst (λ (m : ℕ). Says (ltb (largestValue edition) (valueLent 
 
 -- The three tests, and what each says.
 abbrev check : Call → ℕ → ℕ → Check
-check c s n = startRefusal s n (keyOf c) (valueLent (lentOf c))
+check c s n = startRefusal s n (keyCarried c) (valueLent (lentOf c))
 
 data Checked (s n : ℕ) (c : Call) : Check → Type 0 where
   refuses : {w : Refusal} → StartWhen s n c w → Checked s n c (Check.Refused w)
@@ -95,7 +61,7 @@ data Checked (s n : ℕ) (c : Call) : Check → Type 0 where
 
 checked : (c : Call) (s n : ℕ) → Checked s n c (check c s n)
 unfolding startRefusal
-checked c s n = go (sized s n) (shape-says s n) (not (allowedKey (keyOf c))) (key-says c) (ltb (largestValue edition) (valueLent (lentOf c))) (large-says c)
+checked c s n = go (sized s n) (shape-says s n) (not (allowedKey (keyCarried c))) (key-says c) (ltb (largestValue edition) (valueLent (lentOf c))) (large-says c)
   where
     go : (a : Bool) → Says a (Shape s n) → (b : Bool) → Says b (BadKey c) → (d : Bool) → Says d (largestValue edition < length (valueOf c))
         → Checked s n c (cond (not a) (Check.Refused Refusal.BadGeometry) (cond b (Check.Refused Refusal.BadKey) (cond d (Check.Refused Refusal.ObjectTooLarge) Check.Fine)))
@@ -107,13 +73,13 @@ checked c s n = go (sized s n) (shape-says s n) (not (allowedKey (keyOf c))) (ke
 check-is : {c : Call} {s n : ℕ} {k : Check} → Checked s n c k → check c s n ≡ k
 unfolding startRefusal
 check-is {c} {s} {n} (refuses (bad-geometry p)) = rw (says-false (sized s n) (shape-says s n) p)
-check-is {c} {s} {n} (refuses (bad-key p q)) = rw (shape-sized p, says-true (not (allowedKey (keyOf c))) (key-says c) q)
+check-is {c} {s} {n} (refuses (bad-key p q)) = rw (shape-sized p, says-true (not (allowedKey (keyCarried c))) (key-says c) q)
 check-is {c} {s} {n} (refuses (object-too-large p q t)) =
-    rw (shape-sized p, says-false (not (allowedKey (keyOf c))) (key-says c) q, says-true (ltb (largestValue edition) (valueLent (lentOf c))) (large-says c) (omega (arith, t)))
+    rw (shape-sized p, says-false (not (allowedKey (keyCarried c))) (key-says c) q, says-true (ltb (largestValue edition) (valueLent (lentOf c))) (large-says c) (omega (arith, t)))
 check-is {c} {s} {n} (fine a) =
     rw (
       shape-sized (a .shape),
-      says-false (not (allowedKey (keyOf c))) (key-says c) (a .key-good),
+      says-false (not (allowedKey (keyCarried c))) (key-says c) (a .key-good),
       says-false (ltb (largestValue edition) (valueLent (lentOf c))) (large-says c) (λ t. let l = a .not-large in omega arith),
     )
 
@@ -125,5 +91,13 @@ refuses-when c s n w = (λ h. go (check c s n) (checked c s n) (sym (starts-so c
     go (Check.Refused v) (refuses u) h = subst (StartWhen s n c) (let same : v ≡ w = cc in same) u
     go Check.Fine (fine a) h = absurd (let z : _≡_ {A = ℕ} 0 1 = cc in omega arith)
 
+pub runs-when : (c : Call) (s n : ℕ) (op : Op) → (startOf c s n ≡ Start.Runs op) ↔ (Allowed s n c × (op ≡ freshOf c s n))
+runs-when c s n op =
+    (λ h. go (check c s n) (checked c s n) (sym (starts-so c s n) ∙ h), λ (a, e). starts-so c s n ∙ ap (startedOr (freshOf c s n)) (check-is (fine a)) ∙ ap Start.Runs (sym e))
+  where
+    go : (k : Check) → Checked s n c k → startedOr (freshOf c s n) k ≡ Start.Runs op → Allowed s n c × (op ≡ freshOf c s n)
+    go (Check.Refused v) (refuses u) h = absurd (let z : _≡_ {A = ℕ} 0 1 = cc in omega arith)
+    go Check.Fine (fine a) h = (a, let same : op ≡ freshOf c s n = cc in same)
+
 pub runs-else : (c : Call) (s n : ℕ) → Allowed s n c → startOf c s n ≡ Start.Runs (freshOf c s n)
-runs-else c s n a = starts-so c s n ∙ ap (startedOr (freshOf c s n)) (check-is (fine a))
+runs-else c s n a = runs-when c s n (freshOf c s n) .1 (a, refl)

@@ -1,6 +1,6 @@
 -- Which refusals a step gives: 11 where the call does not fit, 12 where it fits and the host says that the service failed, else one of a lookup or none.
 -- Assumes nothing.
-use Prim.Native.Nat.{ℕ, _+_, _*_, _≤_}
+use Prim.Native.Nat.{ℕ, _+_, _≤_}
 use native.Mathlib.Omega.{arith}
 use mathlib.Core.Path.{_≡_, refl, sym, _∙_}
 use mathlib.Core.Bool.{Bool, true, false, _&&_, cond, true≢false}
@@ -21,7 +21,7 @@ use Rattle.lookup.specs.declared.Turn.{Turn}
 use Rattle.refusals.specs.Refusals.{number, refusalOf}
 use Rattle.lookup.specs.Turns.{close, turnOf, refusedBy}
 use Rattle.plans.specs.declared.Answer.{Answer}
-use Rattle.plans.specs.declared.Answer.the-variants.{Complete, Freed, Refused}
+use Rattle.plans.specs.declared.Answer.the-variants.{Complete, Refused}
 use Rattle.plans.specs.declared.Aim.{Aim}
 use Rattle.plans.specs.declared.Lent.{Lent}
 use Rattle.plans.specs.declared.Edit.{Edit}
@@ -49,6 +49,7 @@ use Rattle.rule.proofs.Calls.{fits-ruled}
 use Rattle.steps.specs.declared.Stepped.{Stepped}
 use Rattle.advancing.specs.Advance.{closes, turnedTo, advanceNext, advanceFirst, advance, givenBy, given}
 use Rattle.steps.specs.Step.{nextOp, fitsHere, stepped}
+use Rattle.stepwise.proofs.Forms.{by-swept}
 use Rattle.stepwise.specs.Asked.{requestRefusal}
 
 -- The refusal that a plan's end stands for, before its value is given and after.
@@ -114,11 +115,7 @@ turned-low aim n i (Turn.More seen) = go (ltb (i + 1) n)
     go false = plan-low aim n (close seen)
 
 swept-low : (s n r k : ℕ) → endRefusal 0 (sweptTo s n r k) ≤ 10
-swept-low s n r k = go (ltb r n)
-  where
-    go : (t : Bool) → endRefusal 0 (cond t (Then.Sweep r k) (Then.Ends (Freed (k * s)))) ≤ 10
-    go true = omega arith
-    go false = omega arith
+swept-low s n r k = by-swept (λ (t : Then). endRefusal 0 t ≤ 10) s n r k (omega arith) (omega arith)
 
 sweep-low : (s n r k : ℕ) (v : Verdict) → endRefusal 0 (sweepPlan s n r k v .next) ≤ 10
 sweep-low s n r k Verdict.Stands = swept-low s n (r + 1) k

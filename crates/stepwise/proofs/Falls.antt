@@ -13,14 +13,16 @@ use lib.ListN.{length, getD, length-map}
 use Rattle.chip.specs.Every.{Every, none, also}
 use Rattle.chip.specs.Geometry.{numbers}
 use Rattle.probe.specs.Probe.{probes}
+use Rattle.format.specs.declared.Removal.{Removal}
 use Rattle.refusals.specs.declared.Refusal.{Refusal}
 use Rattle.lookup.specs.declared.Room.{Room}
 use Rattle.lookup.specs.declared.Seen.{Seen}
 use Rattle.lookup.specs.declared.Looked.{Looked}
 use Rattle.lookup.specs.declared.Turn.{Turn}
-use Rattle.lookup.specs.Turns.{close, turnOf}
+use Rattle.lookup.specs.declared.Hit.{Hit}
+use Rattle.lookup.specs.Turns.{close, turnOf, hitBy}
 use Rattle.plans.specs.declared.Answer.{Answer}
-use Rattle.plans.specs.declared.Answer.the-variants.{Freed, Refused}
+use Rattle.plans.specs.declared.Answer.the-variants.{Refused}
 use Rattle.plans.specs.declared.Aim.{Aim}
 use Rattle.plans.specs.declared.Lent.{Lent}
 use Rattle.plans.specs.declared.Edit.{Edit}
@@ -32,7 +34,7 @@ use Rattle.plans.specs.Writes.{valueLent, bufferLent, listed, first, ends}
 use Rattle.plans.specs.Fits.{thenFits, rests}
 use Rattle.plans.proofs.Facts.{seek-facts, sweep-facts}
 use Rattle.plans.proofs.Lists.{listed-none, listed-some}
-use Rattle.planning.specs.Planning.{needOf, anew, placePlan, plan}
+use Rattle.planning.specs.Planning.{needOf, anew, getPlan, placePlan, appendPlan, removePlan, initialisePlan, plan}
 use Rattle.planning.proofs.Places.{by-place}
 use Rattle.sweeping.specs.declared.Verdict.{Verdict}
 use Rattle.sweeping.specs.Sweeps.{verdict, sweptTo, sweepPlan}
@@ -52,47 +54,58 @@ use Rattle.advancing.specs.Advance.{closes, turnedTo, advanceNext, advanceFirst
 use Rattle.steps.specs.declared.Stepped.{Stepped}
 use Rattle.steps.specs.Step.{nextOp, fitsHere, stepped}
 use Rattle.steps.proofs.Keeps.{next-ruled}
-use Rattle.stepwise.specs.Asked.{asks}
+use Rattle.stepwise.proofs.Forms.{by-swept}
+use Rattle.stepwise.specs.Asked.{asks, requestRefusal}
 use Rattle.stepwise.specs.Begins.{startOf, freshOf}
 use Rattle.stepwise.specs.Misfit.{LentRight}
-use Rattle.stepwise.specs.Ahead.{Given, next, after, Fair, isDone, dones, behind, aheadNext, aheadPlan, ahead, most}
+use Rattle.stepwise.specs.Ahead.{Given, next, after, Fair, isDone, dones, taken, Answers, now, later, behind, aheadNext, aheadPlan, ahead, most}
 use Rattle.stepwise.proofs.Starts.{start-ruled, start-runs}
+use Rattle.stepwise.proofs.Exactly.{step-refuses, is-bad-call}
 use Rattle.stepwise.proofs.Misfits.{edit-asks, lent-fits, fits, asks-later}
 
 -- A lookup's end: what its plan asks for lay behind the lookup.
 
-place-ahead : (n : ℕ) (place : Room) → aheadPlan n (placePlan place) ≤ behind Aim.Append n
+place-ahead : (n : ℕ) (place : Room) → aheadPlan n (placePlan place) ≤ 1
 place-ahead n Room.Nowhere = omega arith
 place-ahead n (Room.At r o false) = omega arith
 place-ahead n (Room.At r o true) = omega arith
 
-numbers-length : (r k : ℕ) → length (numbers r k) ≡ k
+pub numbers-length : (r k : ℕ) → length (numbers r k) ≡ k
 unfolding numbers
 numbers-length r zero = refl
 numbers-length r (suc k) = ap suc (numbers-length (r + 1) k)
 
-anew-ahead : (n : ℕ) → aheadPlan n (anew n) ≡ behind Aim.Initialise n
+anew-ahead : (n : ℕ) → aheadPlan n (anew n) ≡ n + (n + 1)
 anew-ahead n = omega (arith, length-map (numbers 0 (n - 0)) Edit.Erase, numbers-length 0 (n - 0), sub-zero n)
 
+get-ahead : (n : ℕ) (hit : Hit) → aheadPlan n (getPlan hit) ≤ 0
+get-ahead n (Hit.Live r x) = omega arith
+get-ahead n (Hit.Refused w) = omega arith
+
+append-ahead : (n : ℕ) (looked : Looked) → aheadPlan n (appendPlan looked) ≤ 1
+append-ahead n (Looked.Live r x) = omega arith
+append-ahead n (Looked.Bad f p) = omega arith
+append-ahead n (Looked.Through seen) = by-place (λ (p : Plan). aheadPlan n p ≤ 1) (place-ahead n) seen
+
+remove-ahead : (n : ℕ) (how : Removal) (hit : Hit) → aheadPlan n (removePlan how hit) ≤ 1
+remove-ahead n how (Hit.Live r x) = omega arith
+remove-ahead n how (Hit.Refused w) = omega arith
+
+initialise-ahead : (n : ℕ) (hit : Hit) → aheadPlan n (initialisePlan n hit) ≤ n + (n + 1)
+initialise-ahead n (Hit.Live r x) = omega arith
+initialise-ahead n (Hit.Refused w) = omega (arith, anew-ahead n)
+
 plan-ahead : (aim : Aim) (n : ℕ) (looked : Looked) → aheadPlan n (plan aim n looked) ≤ behind aim n
-plan-ahead Aim.Get n (Looked.Live r x) = omega arith
-plan-ahead Aim.Get n (Looked.Bad f p) = omega arith
-plan-ahead Aim.Get n (Looked.Through seen) = omega arith
-plan-ahead Aim.Append n (Looked.Live r x) = omega arith
-plan-ahead Aim.Append n (Looked.Bad f p) = omega arith
-plan-ahead Aim.Append n (Looked.Through seen) = by-place (λ (p : Plan). aheadPlan n p ≤ behind Aim.Append n) (place-ahead n) seen
-plan-ahead (Aim.Remove how) n (Looked.Live r x) = omega arith
-plan-ahead (Aim.Remove how) n (Looked.Bad f p) = omega arith
-plan-ahead (Aim.Remove how) n (Looked.Through seen) = omega arith
-plan-ahead Aim.Initialise n (Looked.Live r x) = omega arith
-plan-ahead Aim.Initialise n (Looked.Bad f p) = omega (arith, anew-ahead n)
-plan-ahead Aim.Initialise n (Looked.Through seen) = omega (arith, anew-ahead n)
+plan-ahead Aim.Get n looked = get-ahead n (hitBy looked)
+plan-ahead Aim.Append n looked = append-ahead n looked
+plan-ahead (Aim.Remove how) n looked = remove-ahead n how (hitBy looked)
+plan-ahead Aim.Initialise n looked = initialise-ahead n (hitBy looked)
 
 -- a value that is given leads no further
 given-ahead : (n : ℕ) (lent : Lent) (region : List ℕ) (p : Plan) → aheadPlan n (given n lent region p) ≤ aheadPlan n p
 given-ahead n lent region p = go (p .next) refl
   where
-    cut : (again starts : Bool) (answer : Answer) → aheadPlan n (cond (again && starts) (anew n) (ends answer)) ≤ cond again (behind Aim.Initialise n) 0
+    cut : (again starts : Bool) (answer : Answer) → aheadPlan n (cond (again && starts) (anew n) (ends answer)) ≤ cond again (n + (n + 1)) 0
     cut false starts answer = omega arith
     cut true false answer = omega arith
     cut true true answer = omega (arith, anew-ahead n)
@@ -117,14 +130,10 @@ turned-ahead aim n i before (Turn.More seen) l = go (ltb (i + 1) n)
     go false = omega (arith, plan-ahead aim n (close seen))
 
 -- or of a sweep
-swept-ahead : (s n r k : ℕ) → aheadNext n (sweptTo s n r k) ≤ aheadNext n (Then.Sweep r k)
-swept-ahead s n r k = go (ltb r n)
-  where
-    go : (t : Bool) → aheadNext n (cond t (Then.Sweep r k) (Then.Ends (Freed (k * s)))) ≤ aheadNext n (Then.Sweep r k)
-    go true = omega arith
-    go false = omega arith
+swept-ahead : (s n r k : ℕ) → aheadNext n (sweptTo s n r k) ≤ 2 * (n - r)
+swept-ahead s n r k = by-swept (λ (t : Then). aheadNext n t ≤ 2 * (n - r)) s n r k (omega arith) (omega arith)
 
-sweep-ahead : (s n r k : ℕ) (v : Verdict) → r < n → suc (aheadPlan n (sweepPlan s n r k v)) ≤ aheadNext n (Then.Sweep r k)
+sweep-ahead : (s n r k : ℕ) (v : Verdict) → r < n → suc (aheadPlan n (sweepPlan s n r k v)) ≤ 2 * (n - r)
 sweep-ahead s n r k Verdict.Stands l = omega (arith, swept-ahead s n (r + 1) k)
 sweep-ahead s n r k Verdict.Erase l = omega (arith, swept-ahead s n (r + 1) (k + 1))
 sweep-ahead s n r k (Verdict.Bad f p) l = omega arith
@@ -243,7 +252,7 @@ none-left op k = (over op (ruled op k), λ (b, (answer, q)). over-is op (ruled o
 
 -- At the start.
 
-most-any : (c : Call) (n : ℕ) → most c n ≤ 3 * n + 1
+pub most-any : (c : Call) (n : ℕ) → most c n ≤ 3 * n + 1
 most-any (get key buffer) n = omega arith
 most-any (append key value) n = omega arith
 most-any (remove how key) n = omega arith
@@ -294,19 +303,67 @@ fair-too o op g s l f = record {
   replies = f .replies;
 }
 
-ends-after : (o op : Op) (gs : List Given) → op .s ≡ o .s → op .lent ≡ o .lent → Every (Fair o) gs → Ruled op → op .fresh ≡ false → ahead op ≤ dones gs
-    → (answer : Answer) × (requestOf (after op gs) ≡ Request.Answers answer)
-unfolding after dones
-ends-after o op [] s l none k b m = over op k (omega arith) .1
-ends-after o op (g ∷ gs) s l (also f fs) k b m =
+-- Whatever the host, so many are taken at most.
+taken-most : (op : Op) (gs : List Given) → taken op gs + ahead (after op gs) ≤ ahead op
+unfolding taken after
+taken-most op [] = omega arith
+taken-most op (g ∷ gs) = go (g .reply) refl (fitsHere op (g .reply) (g .region) (g .value) (g .buffer)) refl (taken-most (next op g) gs)
+  where
+    Rest : Type 0
+    Rest = taken (next op g) gs + ahead (after (next op g) gs) ≤ ahead (next op g)
+
+    go : (y : Reply) → g .reply ≡ y → (t : Bool) → fitsHere op (g .reply) (g .region) (g .value) (g .buffer) ≡ t → Rest
+        → cond (isDone y && t) (suc (taken (next op g) gs)) (taken (next op g) gs) + ahead (after (next op g) gs) ≤ ahead op
+    go Reply.Begin e t f l = omega (arith, l, rises-never op g)
+    go Reply.Done e false f l = omega (arith, l, rises-never op g)
+    go Reply.Done e true f l =
+        let less : suc (ahead (next op g)) ≤ ahead op =
+        subst (λ (y : Reply). suc (ahead (stepped op y (g .region) (g .value) (g .buffer) .op)) ≤ ahead op) (sym e)
+        (falls op (g .region) (g .value) (g .buffer) (subst (λ (y : Reply). fitsHere op y (g .region) (g .value) (g .buffer) ≡ true) e f)) in
+        omega (arith, l, less)
+    go Reply.NotReady e t f l = omega (arith, l, rises-never op g)
+    go Reply.Failed e t f l = omega (arith, l, rises-never op g)
+
+pub taken-at-most : (c : Call) (s n : ℕ) (op : Op) → startOf c s n ≡ Start.Runs op → (gs : List Given) → taken op gs + ahead (after op gs) ≤ most c n
+taken-at-most c s n op h gs = omega (arith, taken-most op gs, at-start c s n op h .0)
+
+-- A step that fits says what the operation then waits for.
+pub says : (op : Op) (y : Reply) (region value buffer : List ℕ) → fitsHere op y region value buffer ≡ true
+    → stepped op y region value buffer .request ≡ requestOf (stepped op y region value buffer .op)
+unfolding stepped
+says op y region value buffer h = rw h
+
+asks-none : (q : Request) → asks q ≡ false → (answer : Answer) × (q ≡ Request.Answers answer)
+asks-none (Request.Read r) h = absurd (true≢false h)
+asks-none (Request.Write a e p) h = absurd (true≢false h)
+asks-none (Request.Erase r) h = absurd (true≢false h)
+asks-none (Request.Answers answer) h = (answer, refl)
+
+ends-after : (o op : Op) (gs : List Given) → op .s ≡ o .s → op .lent ≡ o .lent → Every (Fair o) gs → Ruled op → op .fresh ≡ false → asks (requestOf op) ≡ true
+    → ahead op ≤ dones gs → Answers op gs
+unfolding dones
+ends-after o op [] s l Every.none k b a m = absurd (true≢false (sym a ∙ ap asks (over op k (omega arith) .1 .1)))
+ends-after o op (g ∷ gs) s l (Every.also f fs) k b a m =
     let t = same op g in
-    ends-after o (next op g) gs (t .s-same ∙ s) (t .lent-same ∙ l) fs (t .kept k) (t .begun b) (one-fewer op g (fair-too o op g s l f) k b (dones gs) m)
+    go (asks (requestOf (next op g))) refl
+    (λ w. ends-after o (next op g) gs (t .s-same ∙ s) (t .lent-same ∙ l) fs (t .kept k) (t .begun b) w (one-fewer op g (fair-too o op g s l f) k b (dones gs) m))
+  where
+    fair : Fair op g
+    fair = fair-too o op g s l f
+
+    fit : fitsHere op (g .reply) (g .region) (g .value) (g .buffer) ≡ true
+    fit = fits op (g .reply) (g .region) (g .value) (g .buffer) (is-ruled op k) a (fair .replies) (fair .region-long) (fair .lent-right)
+
+    go : (t : Bool) → asks (requestOf (next op g)) ≡ t → (asks (requestOf (next op g)) ≡ true → Answers (next op g) gs) → Answers op (g ∷ gs)
+    go true w ih = later (ih w)
+    go false w ih =
+        let (answer, e) = asks-none (requestOf (next op g)) w in
+        let said = says op (g .reply) (g .region) (g .value) (g .buffer) fit ∙ e in
+        now said (λ z. true≢false (sym fit ∙ is-bad-call op (g .reply) (g .region) (g .value) (g .buffer) (step-refuses op (g .reply) (g .region) (g .value) (g .buffer)) (ap requestRefusal said ∙ z)))
 
 pub ends-always : (c : Call) (s n : ℕ) (op : Op) → startOf c s n ≡ Start.Runs op
     → (region value buffer : List ℕ) → length region ≡ s → LentRight (op .lent) value buffer
-    → let begun = stepped op Reply.Begin region value buffer .op in
-    (gs : List Given) → Every (Fair op) gs → most c n ≤ dones gs
-    → (answer : Answer) × (requestOf (after begun gs) ≡ Request.Answers answer)
+    → (gs : List Given) → Every (Fair op) gs → most c n ≤ dones gs → Answers (stepped op Reply.Begin region value buffer .op) gs
 ends-always c s n op h region value buffer long lent gs fair enough = go (makes op Reply.Begin region value buffer)
   where
     is : op ≡ freshOf c s n
@@ -317,6 +374,16 @@ ends-always c s n op h region value buffer long lent gs fair enough = go (makes 
         fits-of op Reply.Begin (length region) (length value) (length buffer)
         (start-ruled c s n h, long ∙ sym (ap (λ (o : Op). o .s) is), lent-fits (op .lent) value buffer lent, ap (λ (o : Op). replyFits (waitOf o) Reply.Begin) is)
 
-    go : {o : Op} → Makes op Reply.Begin region value buffer o → (answer : Answer) × (requestOf (after o gs) ≡ Request.Answers answer)
+    -- what a start hands out looks at a region first
+    looks : (c : Call) → asks (requestOf (nextOp (freshOf c s n) Reply.Begin region)) ≡ true
+    looks (get key buffer) = refl
+    looks (append key value) = refl
+    looks (remove how key) = refl
+    looks collect = refl
+    looks (initialise key) = refl
+
+    go : {o : Op} → Makes op Reply.Begin region value buffer o → Answers o gs
     go (nothing u) = absurd (true≢false (sym fit ∙ u))
-    go (onward k l r) = ends-after op (nextOp op Reply.Begin region) gs refl refl fair (next-ruled op Reply.Begin region k l) refl (omega (arith, enough, at-start c s n op h .0))
+    go (onward k l r) =
+        ends-after op (nextOp op Reply.Begin region) gs refl refl fair (next-ruled op Reply.Begin region k l) refl
+        (ap (λ (o : Op). asks (requestOf (nextOp o Reply.Begin region))) is ∙ looks c) (omega (arith, enough, at-start c s n op h .0))

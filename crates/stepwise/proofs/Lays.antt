@@ -1,7 +1,7 @@
 -- A step as its two cases, the call fits or it does not. What it then asks for lies in the chip, and what it leaves in the lent buffers: the bytes of
 -- the write that it asks for, and the value of a get that answers.
 -- Assumes nothing.
-use Prim.Native.Nat.{ℕ, _+_, _-_, _*_, _≤_}
+use Prim.Native.Nat.{ℕ, _+_, _-_, _≤_}
 use native.Mathlib.Nat.{add-sub-cancel-left}
 use native.Mathlib.Omega.{arith}
 use mathlib.Core.Path.{_≡_, refl, sym, _∙_, ap, subst}
@@ -15,14 +15,16 @@ use Rattle.probe.specs.Probe.{probes}
 use Rattle.format.specs.declared.Record.{Record}
 use Rattle.format.specs.Layout.{checkSumFits}
 use Rattle.region.specs.Walk.{bytesIn, valueLength}
+use Rattle.format.specs.declared.Removal.{Removal}
 use Rattle.refusals.specs.declared.Refusal.{Refusal}
 use Rattle.lookup.specs.declared.Room.{Room}
 use Rattle.lookup.specs.declared.Seen.{Seen}
 use Rattle.lookup.specs.declared.Looked.{Looked}
 use Rattle.lookup.specs.declared.Turn.{Turn}
-use Rattle.lookup.specs.Turns.{turnOf}
+use Rattle.lookup.specs.declared.Hit.{Hit}
+use Rattle.lookup.specs.Turns.{turnOf, hitBy}
 use Rattle.plans.specs.declared.Answer.{Answer}
-use Rattle.plans.specs.declared.Answer.the-variants.{Complete, Freed, Refused}
+use Rattle.plans.specs.declared.Answer.the-variants.{Complete, Refused}
 use Rattle.plans.specs.declared.Aim.{Aim}
 use Rattle.plans.specs.declared.Lent.{Lent}
 use Rattle.plans.specs.declared.Edit.{Edit}
@@ -33,7 +35,7 @@ use Rattle.plans.specs.Writes.{valueLent, bufferLent, valueOf, startOf, bytesOf
 use Rattle.plans.specs.Fits.{lentNothing, lentFor, editFits, thenFits, rests}
 use Rattle.plans.proofs.Facts.{edit-facts, edits-facts, seek-facts}
 use Rattle.plans.proofs.Laid.{length-bytes, laid-length, laid-there}
-use Rattle.planning.specs.Planning.{needOf, placePlan, plan}
+use Rattle.planning.specs.Planning.{needOf, getPlan, placePlan, appendPlan, removePlan, initialisePlan, plan}
 use Rattle.planning.proofs.Places.{by-place}
 use Rattle.sweeping.specs.declared.Verdict.{Verdict}
 use Rattle.sweeping.specs.Sweeps.{verdict, sweptTo, sweepPlan}
@@ -51,6 +53,7 @@ use Rattle.laying.specs.Lend.{laidFor, laid, laidOn}
 use Rattle.steps.specs.declared.Stepped.{Stepped}
 use Rattle.steps.specs.Step.{nextOp, fitsHere, stepped, regionAfter, bufferAfter}
 use Rattle.steps.proofs.Keeps.{next-ruled}
+use Rattle.stepwise.proofs.Forms.{Awaits, a-region, no-more, next-awaits, by-swept, filled-rests}
 use Rattle.stepwise.specs.Asked.{Inside, answers, Reads, complete, too-short, wrong-sum, GetReads}
 use Rattle.stepwise.proofs.Starts.{inside}
 
@@ -115,10 +118,11 @@ pub record Writes (len : ℕ) (f : First) (a e : ℕ) : Type 0 where
   pub stops : e ≡ startOf edit + sizeOf len edit
 
 next-writes : (s len key n : ℕ) (next : Then) {a e p : ℕ} → requestFor s len (waitNext key n next) ≡ Request.Write a e p → ⊥
-next-writes s len key n (Then.Ends answer) h = let z : _≡_ {A = ℕ} 0 1 = cc in omega arith
-next-writes s len key n (Then.Seek aim i seen) h = let z : _≡_ {A = ℕ} 0 1 = cc in omega arith
-next-writes s len key n (Then.Sweep r k) h = let z : _≡_ {A = ℕ} 0 1 = cc in omega arith
-next-writes s len key n (Then.Gives r x again) h = let z : _≡_ {A = ℕ} 0 1 = cc in omega arith
+next-writes s len key n next h = go (next-awaits key n next) h
+  where
+    go : {w : Wait} → Awaits w → {a e p : ℕ} → requestFor s len w ≡ Request.Write a e p → ⊥
+    go a-region h = let z : _≡_ {A = ℕ} 0 1 = cc in omega arith
+    go no-more h = let z : _≡_ {A = ℕ} 0 1 = cc in omega arith
 
 edit-writes : (s len : ℕ) (d : Edit) {a e p : ℕ} → requestEdit s len d ≡ Request.Write a e p → Writes len (First.Do d) a e
 edit-writes s len d h = go d h
@@ -232,20 +236,29 @@ module _ (op : Op) (region buffer : List ℕ) where
   nothing-fills (Lent.Value len) h r x = refl
   nothing-fills (Lent.Buffer len) h r x = absurd (true≢false (sym h))
 
+  get-fills : (hit : Hit) (i : ℕ) (seen : Seen) → op .plan .next ≡ Then.Seek Aim.Get i seen → Fills op region buffer (getPlan hit)
+  get-fills (Hit.Live r x) i seen e = inr ((i, seen, e), (readAnswer region x (bufferLent (op .lent)), answer-reads region x (bufferLent (op .lent)), refl))
+  get-fills (Hit.Refused w) i seen e = inl refl
+
+  append-fills : (looked : Looked) → Fills op region buffer (appendPlan looked)
+  append-fills (Looked.Live r x) = inl refl
+  append-fills (Looked.Bad f p) = inl refl
+  append-fills (Looked.Through seen) = by-place (Fills op region buffer) place-fills seen
+
+  remove-fills : (how : Removal) (hit : Hit) → Fills op region buffer (removePlan how hit)
+  remove-fills how (Hit.Live r x) = inl refl
+  remove-fills how (Hit.Refused w) = inl refl
+
+  initialise-fills : (hit : Hit) → lentNothing (op .lent) ≡ true → Fills op region buffer (initialisePlan (op .n) hit)
+  initialise-fills (Hit.Live r x) h = inl (nothing-fills (op .lent) h r x)
+  initialise-fills (Hit.Refused w) h = inl refl
+
   plan-fills : (aim : Aim) (i : ℕ) (seen : Seen) → op .plan .next ≡ Then.Seek aim i seen → lentFor aim (op .lent) ≡ true → (looked : Looked)
       → Fills op region buffer (plan aim (op .n) looked)
-  plan-fills Aim.Get i seen e h (Looked.Live r x) = inr ((i, seen, e), (readAnswer region x (bufferLent (op .lent)), answer-reads region x (bufferLent (op .lent)), refl))
-  plan-fills Aim.Get i seen e h (Looked.Bad f p) = inl refl
-  plan-fills Aim.Get i seen e h (Looked.Through more) = inl refl
-  plan-fills Aim.Append i seen e h (Looked.Live r x) = inl refl
-  plan-fills Aim.Append i seen e h (Looked.Bad f p) = inl refl
-  plan-fills Aim.Append i seen e h (Looked.Through more) = by-place (Fills op region buffer) place-fills more
-  plan-fills (Aim.Remove how) i seen e h (Looked.Live r x) = inl refl
-  plan-fills (Aim.Remove how) i seen e h (Looked.Bad f p) = inl refl
-  plan-fills (Aim.Remove how) i seen e h (Looked.Through more) = inl refl
-  plan-fills Aim.Initialise i seen e h (Looked.Live r x) = inl (nothing-fills (op .lent) h r x)
-  plan-fills Aim.Initialise i seen e h (Looked.Bad f p) = inl refl
-  plan-fills Aim.Initialise i seen e h (Looked.Through more) = inl refl
+  plan-fills Aim.Get i seen e h looked = get-fills (hitBy looked) i seen e
+  plan-fills Aim.Append i seen e h looked = append-fills looked
+  plan-fills (Aim.Remove how) i seen e h looked = remove-fills how (hitBy looked)
+  plan-fills Aim.Initialise i seen e h looked = initialise-fills (hitBy looked) h
 
   turned-fills : (aim : Aim) (i : ℕ) (seen : Seen) → op .plan .next ≡ Then.Seek aim i seen → lentFor aim (op .lent) ≡ true → (t : Turn)
       → Fills op region buffer (turnedTo aim (op .n) i t)
@@ -253,11 +266,7 @@ module _ (op : Op) (region buffer : List ℕ) where
   turned-fills aim i seen e h (Turn.More more) = inl refl
 
   swept-fills : (s n r k : ℕ) → filledBy (op .lent) region (sweptTo s n r k) buffer ≡ buffer
-  swept-fills s n r k = go (ltb r n)
-    where
-      go : (t : Bool) → filledBy (op .lent) region (cond t (Then.Sweep r k) (Then.Ends (Freed (k * s)))) buffer ≡ buffer
-      go true = refl
-      go false = refl
+  swept-fills s n r k = by-swept (λ (t : Then). filledBy (op .lent) region t buffer ≡ buffer) s n r k refl refl
 
   sweep-fills : (s n r k : ℕ) (v : Verdict) → filled (op .lent) region (sweepPlan s n r k v) buffer ≡ buffer
   sweep-fills s n r k Verdict.Stands = swept-fills s n (r + 1) k
@@ -273,18 +282,11 @@ module _ (op : Op) (region buffer : List ℕ) where
   next-fills (Then.Sweep r k) e h c = inl (sweep-fills (op .s) (op .n) r k (verdict r region))
   next-fills (Then.Gives r x again) e h c = absurd (true≢false (sym c))
 
-  -- an edit was done: where an operation rests nothing is to be given
-  rest-fills : (d : Edit) (t : Then) → rests (First.Do d) t ≡ true → filledBy (op .lent) region t buffer ≡ buffer
-  rest-fills d (Then.Ends answer) h = refl
-  rest-fills d (Then.Seek aim i seen) h = refl
-  rest-fills d (Then.Sweep r k) h = refl
-  rest-fills d (Then.Gives r x again) h = absurd (true≢false (sym h))
-
   advance-fills : Ruled op → Fills op region buffer (advance op region)
   advance-fills k = go (first (op .plan .edits)) (plan-of op k .at-rest)
     where
       go : (f : First) → rests f (op .plan .next) ≡ true → Fills op region buffer (advanceFirst op region f)
-      go (First.Do d) c = inl (rest-fills d (op .plan .next) c)
+      go (First.Do d) c = inl (filled-rests (op .n) (op .lent) region (First.Do d) (op .plan) c buffer)
       go First.Nothing c = next-fills (op .plan .next) refl (plan-of op k .next-good) c
 
 pub steps-fill : {op : Op} {y : Reply} {region value buffer : List ℕ} {q : Request} {r b : List ℕ} → Steps op y region value buffer q r b → (b ≡ buffer) ⊎ GetReads op q

@@ -1,3 +1,4 @@
+pub mod Forms
 pub mod Starts
 pub mod Begins
 pub mod Exactly

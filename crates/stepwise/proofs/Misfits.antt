@@ -23,6 +23,7 @@ use Rattle.running.specs.Waits.{waitFirst, waitOf, requestEdit, requestFor, req
 use Rattle.rule.specs.Rule.{rule, begins, serves, replyFits, buffersFit, callFits}
 use Rattle.rule.proofs.Calls.{ruled, is-ruled, fits-ruled, fits-of}
 use Rattle.steps.specs.Step.{fitsHere, stepped}
+use Rattle.stepwise.proofs.Forms.{Awaits, a-region, no-more, next-awaits}
 use Rattle.stepwise.specs.Asked.{asks, requestRefusal}
 use Rattle.stepwise.specs.Misfit.{Misfit, region-buffer, value-length, buffer-length, begins-late, another-first, after-the-end, rule-broken}
 use Rattle.stepwise.specs.Misfit.{LentRight, value-lent, buffer-lent}
@@ -53,13 +54,14 @@ edit-asks s len (Edit.Erase r) = refl
 fits-asks : (s len key n : ℕ) (f : First) (t : Then) (y : Reply) → replyFits (waitFirst key n f t) y ≡ true
     → (asks (requestFor s len (waitFirst key n f t)) ≡ true) × (serves y ≡ true)
 fits-asks s len key n (First.Do e) t y h = (edit-asks s len e, h)
-fits-asks s len key n First.Nothing (Then.Ends answer) y h = absurd (true≢false (sym h))
-fits-asks s len key n First.Nothing (Then.Seek aim i seen) y h = (refl, h)
-fits-asks s len key n First.Nothing (Then.Sweep r k) y h = (refl, h)
-fits-asks s len key n First.Nothing (Then.Gives r x again) y h = absurd (true≢false (sym h))
+fits-asks s len key n First.Nothing t y h = go (next-awaits key n t) h
+  where
+    go : {w : Wait} → Awaits w → replyFits w y ≡ true → (asks (requestFor s len w) ≡ true) × (serves y ≡ true)
+    go a-region h = (refl, h)
+    go no-more h = absurd (true≢false (sym h))
 
 -- the other way
-asks-fits : (s len : ℕ) (w : Wait) (y : Reply) → asks (requestFor s len w) ≡ true → serves y ≡ true → replyFits w y ≡ true
+pub asks-fits : (s len : ℕ) (w : Wait) (y : Reply) → asks (requestFor s len w) ≡ true → serves y ≡ true → replyFits w y ≡ true
 asks-fits s len Wait.Begin y a h = absurd (true≢false (sym a))
 asks-fits s len (Wait.Read r) y a h = h
 asks-fits s len (Wait.Edit e) y a h = h
@@ -72,10 +74,11 @@ data Unfit (s len : ℕ) (w : Wait) (y : Reply) : Type 0 where
 
 unfits : (s len key n : ℕ) (f : First) (t : Then) (y : Reply) → replyFits (waitFirst key n f t) y ≡ false → Unfit s len (waitFirst key n f t) y
 unfits s len key n (First.Do e) t y h = late (no-service y h)
-unfits s len key n First.Nothing (Then.Ends answer) y h = over refl
-unfits s len key n First.Nothing (Then.Seek aim i seen) y h = late (no-service y h)
-unfits s len key n First.Nothing (Then.Sweep r k) y h = late (no-service y h)
-unfits s len key n First.Nothing (Then.Gives r x again) y h = over refl
+unfits s len key n First.Nothing t y h = go (next-awaits key n t) h
+  where
+    go : {w : Wait} → Awaits w → replyFits w y ≡ false → Unfit s len w y
+    go a-region h = late (no-service y h)
+    go no-more h = over refl
 
 -- What is lent.
 

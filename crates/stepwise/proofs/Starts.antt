@@ -25,10 +25,10 @@ use Rattle.running.specs.Waits.{waitNext, waitFirst, requestEdit, requestFor, r
 use Rattle.running.specs.Ruled.{Ruled}
 use Rattle.running.proofs.Rules.{plan-of, look-ruled, collect-ruled}
 use Rattle.stepwise.specs.Asked.{Inside, reads, writes, erases, answers}
-use Rattle.stepwise.specs.Begins.{startOf, keyOf, lentOf, freshOf}
+use Rattle.stepwise.specs.Begins.{startOf, keyCarried, lentOf, freshOf}
 
 -- Every start is of one form, and hands out what keeps the rule.
-pub starts-so : (c : Call) (s n : ℕ) → startOf c s n ≡ startedOr (freshOf c s n) (startRefusal s n (keyOf c) (valueLent (lentOf c)))
+pub starts-so : (c : Call) (s n : ℕ) → startOf c s n ≡ startedOr (freshOf c s n) (startRefusal s n (keyCarried c) (valueLent (lentOf c)))
 starts-so (get key buffer) s n = refl
 starts-so (append key value) s n = refl
 starts-so (remove how key) s n = refl
@@ -44,12 +44,12 @@ start-ruled (initialise key) s n h = look-ruled _ s n key Lent.Nothing refl h
 
 pub record Runs (c : Call) (s n : ℕ) (op : Op) : Type 0 where
   pub is : op ≡ freshOf c s n
-  pub fine : startRefusal s n (keyOf c) (valueLent (lentOf c)) ≡ Check.Fine
+  pub fine : startRefusal s n (keyCarried c) (valueLent (lentOf c)) ≡ Check.Fine
 
 pub start-runs : (c : Call) (s n : ℕ) (op : Op) → startOf c s n ≡ Start.Runs op → Runs c s n op
-start-runs c s n op h = go (startRefusal s n (keyOf c) (valueLent (lentOf c))) refl (sym (starts-so c s n) ∙ h)
+start-runs c s n op h = go (startRefusal s n (keyCarried c) (valueLent (lentOf c))) refl (sym (starts-so c s n) ∙ h)
   where
-    go : (check : Check) → startRefusal s n (keyOf c) (valueLent (lentOf c)) ≡ check → startedOr (freshOf c s n) check ≡ Start.Runs op → Runs c s n op
+    go : (check : Check) → startRefusal s n (keyCarried c) (valueLent (lentOf c)) ≡ check → startedOr (freshOf c s n) check ≡ Start.Runs op → Runs c s n op
     go Check.Fine e h = record { is = let same : op ≡ freshOf c s n = cc in same; fine = e }
     go (Check.Refused w) e h = absurd (let z : _≡_ {A = ℕ} 0 1 = cc in omega arith)
 

@@ -31,14 +31,14 @@ use Rattle.steps.proofs.Keeps.{next-ruled}
 use Rattle.stepwise.specs.Asked.{asks, requestRefusal, Inside, MayAsk, GetReads}
 use Rattle.stepwise.specs.Begins.{startOf, StartWhen, Allowed, freshOf}
 use Rattle.stepwise.specs.Misfit.{Misfit, LentRight}
-use Rattle.stepwise.specs.Ahead.{Given, next, after, Fair, dones, ahead, most}
+use Rattle.stepwise.specs.Ahead.{Given, next, after, Fair, dones, taken, Answers, ahead, most}
 use Rattle.stepwise.proofs.Starts.{start-ruled, inside}
-use Rattle.stepwise.proofs.Begins.{refuses-when, runs-else}
+use Rattle.stepwise.proofs.Begins.{refuses-when, runs-when}
 use Rattle.stepwise.proofs.Exactly.{still-there}
 use Rattle.stepwise.proofs.Misfits.{fits, eleven-when, twelve-when}
 use Rattle.stepwise.proofs.Lays.{steps, steps-inside, steps-alter, steps-leave, leaves-rest, steps-fill}
 use Rattle.stepwise.proofs.Asks.{call-asks, append-lays-lent}
-use Rattle.stepwise.proofs.Falls.{at-start, falls, rises-never, none-left, ends-always}
+use Rattle.stepwise.proofs.Falls.{at-start, falls, rises-never, none-left, taken-at-most, says, ends-always}
 
 -- Starts.
 
@@ -46,9 +46,9 @@ use Rattle.stepwise.proofs.Falls.{at-start, falls, rises-never, none-le
 pub start-refuses-exactly-when : (c : Call) (s n : ℕ) (w : Refusal) → (startOf c s n ≡ Start.Refused w) ↔ StartWhen s n c w
 start-refuses-exactly-when c s n w = refuses-when c s n w
 
--- Where none does, it hands out the fresh operation of the call.
-pub start-runs-else : (c : Call) (s n : ℕ) → Allowed s n c → startOf c s n ≡ Start.Runs (freshOf c s n)
-start-runs-else c s n a = runs-else c s n a
+-- Where none does, it hands out the fresh operation of the call, and only there.
+pub start-runs-exactly-when : (c : Call) (s n : ℕ) (op : Op) → (startOf c s n ≡ Start.Runs op) ↔ (Allowed s n c × (op ≡ freshOf c s n))
+start-runs-exactly-when c s n op = runs-when c s n op
 
 -- The rule.
 
@@ -80,10 +80,16 @@ step-inside op y region value buffer = steps-inside (steps op y region value buf
 pub asks-inside : (op : Op) → rule op ≡ true → Inside (op .s) (op .n) (requestOf op)
 asks-inside op k = inside op (ruled op k)
 
--- Which operations ask for a write, and which for an erase: of a call that was started, after any replies and any lent bytes. Get, append and the
--- removals never ask for an erase.
-pub asks-only : (c : Call) (s n : ℕ) (op : Op) → startOf c s n ≡ Start.Runs op → (gs : List Given) → MayAsk s c (requestOf (after op gs))
-asks-only c s n op h gs = call-asks c s n op h gs
+-- A step whose call fits says what the operation that it hands back waits for.
+pub says-what-it-waits-for : (op : Op) (y : Reply) (region value buffer : List ℕ) → fitsHere op y region value buffer ≡ true
+    → stepped op y region value buffer .request ≡ requestOf (stepped op y region value buffer .op)
+says-what-it-waits-for op y region value buffer h = says op y region value buffer h
+
+-- Which operations ask for a write, and which for an erase: what any step of a call's operation says, after any replies and any lent bytes. Get,
+-- append and the removals never ask for an erase.
+pub asks-only : (c : Call) (s n : ℕ) (op : Op) → startOf c s n ≡ Start.Runs op → (gs : List Given) (y : Reply) (region value buffer : List ℕ)
+    → MayAsk s c (stepped (after op gs) y region value buffer .request)
+asks-only c s n op h gs y region value buffer = call-asks c s n op h gs y region value buffer
 
 -- What a step leaves in the lent buffers.
 
@@ -176,13 +182,17 @@ never-rises op g = rises-never op g
 pub none-ahead : (op : Op) → rule op ≡ true → (ahead op ≡ 0) ↔ ((op .fresh ≡ false) × ((answer : Answer) × (requestOf op ≡ Request.Answers answer)))
 none-ahead op k = none-left op k
 
--- So an operation ends, in the hands of a chip that lies about its reads, writes and erases too: once it has begun, after as many "done" as the
--- number says it has answered. (A host that is never ready is asked for ever: that is the host's.)
+-- So after any replies and any lent bytes at all, with mistakes among them, the services that were done and those still to come are no more than at
+-- the start.
+pub nothing-runs-on : (c : Call) (s n : ℕ) (op : Op) → startOf c s n ≡ Start.Runs op → (gs : List Given) → taken op gs + ahead (after op gs) ≤ most c n
+nothing-runs-on c s n op h gs = taken-at-most c s n op h gs
+
+-- And an operation ends, in the hands of a chip that lies about its reads, writes and erases too: begun, and lent buffers of the right lengths with
+-- any bytes in them, it answers by the time that as many "done" were said as the number is at the start. (A host that is never ready is asked for
+-- ever: that is the host's.)
 pub ends-whatever-the-host : (c : Call) (s n : ℕ) (op : Op) → startOf c s n ≡ Start.Runs op
     → (region value buffer : List ℕ) → length region ≡ s → LentRight (op .lent) value buffer
-    → let begun = stepped op Reply.Begin region value buffer .op in
-    (gs : List Given) → Every (Fair op) gs → most c n ≤ dones gs
-    → (answer : Answer) × (requestOf (after begun gs) ≡ Request.Answers answer)
+    → (gs : List Given) → Every (Fair op) gs → most c n ≤ dones gs → Answers (stepped op Reply.Begin region value buffer .op) gs
 ends-whatever-the-host c s n op h region value buffer long lent gs fair enough = ends-always c s n op h region value buffer long lent gs fair enough
 
 -- "Show that any pair of results allowed for one input is identical": a step's result, region buffer and buffer at exit, and what a start gives.

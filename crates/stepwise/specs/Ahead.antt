@@ -1,9 +1,11 @@
 -- Any host at all: it replies what it likes and lends any bytes, at every step other ones. How many services an operation then still asks for at most.
 use Prim.Native.Nat.{ℕ, suc, _+_, _-_, _*_}
 use mathlib.Core.Path.{_≡_}
-use mathlib.Core.Bool.{Bool, true, false, cond}
+use mathlib.Core.Bool.{Bool, true, false, _&&_, cond}
 use mathlib.Core.List.{List, [], _∷_}
 use lib.ListN.{length}
+use Rattle.plans.specs.declared.Answer.{Answer}
+use Rattle.plans.specs.Answers.{refusal}
 use Rattle.plans.specs.declared.Aim.{Aim}
 use Rattle.plans.specs.declared.Then.{Then}
 use Rattle.plans.specs.declared.Plan.{Plan}
@@ -11,8 +13,9 @@ use Rattle.plans.specs.Writes.{listed}
 use Rattle.store.specs.Call.{Call, get, append, remove, collect, initialise}
 use Rattle.running.specs.declared.Op.{Op}
 use Rattle.running.specs.declared.Reply.{Reply}
+use Rattle.running.specs.declared.Request.{Request}
 use Rattle.rule.specs.Rule.{serves}
-use Rattle.steps.specs.Step.{stepped}
+use Rattle.steps.specs.Step.{fitsHere, stepped}
 use Rattle.stepwise.specs.Misfit.{LentRight}
 
 -- What a host gives to a step: its reply, and what it lends.
@@ -47,6 +50,18 @@ isDone Reply.Failed = false
 unfoldable pub dones : List Given → ℕ
 dones [] = 0
 dones (g ∷ gs) = cond (isDone (g .reply)) (suc (dones gs)) (dones gs)
+
+-- and in how many of these the step takes it, since the call fits
+unfoldable pub taken : Op → List Given → ℕ
+taken op [] = 0
+taken op (g ∷ gs) =
+    cond (isDone (g .reply) && fitsHere op (g .reply) (g .region) (g .value) (g .buffer)) (suc (taken (next op g) gs)) (taken (next op g) gs)
+
+-- One of the steps answers, and not that the call does not fit.
+pub data Answers : Op → List Given → Type 0 where
+  now : {op : Op} {g : Given} {gs : List Given} {answer : Answer}
+      → stepped op (g .reply) (g .region) (g .value) (g .buffer) .request ≡ Request.Answers answer → (refusal answer ≡ 11 → ⊥) → Answers op (g ∷ gs)
+  later : {op : Op} {g : Given} {gs : List Given} → Answers (next op g) gs → Answers op (g ∷ gs)
 
 -- The services still to come, at most.
 

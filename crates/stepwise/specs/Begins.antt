@@ -41,12 +41,12 @@ pub record Allowed (s n : ℕ) (c : Call) : Type 0 where
 -- The running operation that its start hands out: fresh, with the call's key, what is lent for it, and what it begins with.
 
 -- collect has no key: its operation carries 1
-abbrev pub keyOf : Call → ℕ
-keyOf (get key buffer) = key
-keyOf (append key value) = key
-keyOf (remove how key) = key
-keyOf collect = 1
-keyOf (initialise key) = key
+abbrev pub keyCarried : Call → ℕ
+keyCarried (get key buffer) = key
+keyCarried (append key value) = key
+keyCarried (remove how key) = key
+keyCarried collect = 1
+keyCarried (initialise key) = key
 
 abbrev pub lentOf : Call → Lent
 lentOf (get key buffer) = Lent.Buffer (length buffer)
@@ -64,4 +64,4 @@ abbrev pub firstOf : Call → Then
 firstOf c = beginsWith (aimOf c)
 
 abbrev pub freshOf : Call → ℕ → ℕ → Op
-freshOf c s n = started s n (keyOf c) (lentOf c) (follows (firstOf c))
+freshOf c s n = started s n (keyCarried c) (lentOf c) (follows (firstOf c))
