@@ -1,4 +1,5 @@
 pub mod Read
 pub mod Called
 pub mod Numbers
+pub mod Handed
 pub mod Theorems

@@ -4,6 +4,7 @@ use Prim.Native.Nat.{ℕ, _≤_, _<_}
 use native.Mathlib.Omega.{arith}
 use mathlib.Core.Path.{_≡_, refl, sym, _∙_, ap, subst}
 use mathlib.Core.Bool.{Bool, true, false, cond, _&&_, true≢false}
+use mathlib.Core.Logic.{_⊎_, inl, inr}
 use lib.Dec.{eqb}
 use borrow.Author.Tests.{eqb-true, eqb-false}
 use Rattle.chip.proofs.Image.{both}
@@ -26,9 +27,11 @@ use Rattle.running.specs.declared.Request.{Request}
 use Rattle.running.specs.Waits.{waitFirst, requestEdit, requestFor, requestOf}
 use Rattle.operations.specs.declared.COperation.{COperation}
 use Rattle.operations.specs.declared.unpacks.KnownReply.{KnownReply}
-use Rattle.operations.specs.Unpacks.{KnownOp, lentIn, aimIn, gatheredIn, nextIn, readAs, ownFresh, ownLent, ownNext, standing, unpacked, replyNumber, knownReply}
-use Rattle.numbers.specs.Packs.{overAfter, over, packed}
+use Rattle.operations.specs.Unpacks.{KnownOp, lentIn, recordIn, editsIn, aimIn, gatheredIn, nextIn, readAs, ownFresh, ownLent, ownNext, standing, unpacked, replyNumber, knownReply}
+use Rattle.rule.specs.Rule.{rule}
+use Rattle.numbers.specs.Packs.{few, overAfter, over, packed}
 use Rattle.numbers.proofs.Own.{own}
+use Rattle.numbers.proofs.Theorems.{unpacks-packed}
 
 -- Numbers stand for one operation, or for none.
 
@@ -50,6 +53,25 @@ pub record Reads (o : COperation) (op : Op) : Type 0 where
   pub same-fresh : op .fresh ≡ eqb (o .fresh) 1
   pub own-fresh : ownFresh (o .fresh) ≡ true
   pub same-next : op .plan .next ≡ nextIn o
+  pub few-left : few (op .plan .edits) ≡ true
+
+-- An edit at most is read off the numbers, or a run of erases.
+few-read : (o : COperation) → few (editsIn o) ≡ true
+few-read o = go (eqb (o .edit) 0) (eqb (o .edit) 1) (eqb (o .edit) 2) (eqb (o .edit) 3) (eqb (o .edit) 4)
+  where
+    go : (a b c d e : Bool)
+        → few (cond a Edits.Nil
+        (cond b (Edits.One (Edit.Lay (o .region) (o .at)))
+        (cond c (Edits.One (Edit.Kill Removal.Invalidate (o .region) (recordIn o)))
+        (cond d (Edits.One (Edit.Kill Removal.Zeroise (o .region) (recordIn o)))
+        (cond e (Edits.One (Edit.Erase (o .region))) (Edits.Erases (o .region) (o .at)))))))
+        ≡ true
+    go true b c d e = refl
+    go false true c d e = refl
+    go false false true d e = refl
+    go false false false true e = refl
+    go false false false false true = refl
+    go false false false false false = refl
 
 pub reads : (o : COperation) (op : Op) → unpacked o ≡ KnownOp.Known op → Reads o op
 unfolding unpacked readAs standing
@@ -70,6 +92,7 @@ reads o op e = go (standing o) refl e
           same-fresh = ap (λ (x : Op). x .fresh) same;
           own-fresh = fresh;
           same-next = ap (λ (x : Op). x .plan .next) same;
+          few-left = ap (λ (x : Op). few (x .plan .edits)) same ∙ few-read o;
         }
     go false h z = absurd (true≢false (sym (ap isKnown z)))
 
@@ -190,7 +213,7 @@ left-over s len key n es First.Nothing q ends h = rw q
 left-over s len key n es First.Nothing q (seeks _) h = let z : _≡_ {A = ℕ} 0 1 = cc in absurd (omega arith)
 left-over s len key n es First.Nothing q sweeps h = let z : _≡_ {A = ℕ} 0 1 = cc in absurd (omega arith)
 
-packed-over : (op : Op) → over (op .plan) ≡ true → packed op .next ≡ 6
+pub packed-over : (op : Op) → over (op .plan) ≡ true → packed op .next ≡ 6
 unfolding packed
 packed-over op e = rw e
 
@@ -200,6 +223,14 @@ answers-ended {o} {op} k f h =
     let follows = subst (Follows o) (sym (k .same-next)) (follows-in o) in
     let ended = left-over (op .s) (valueLent (op .lent)) (op .key) (op .n) (op .plan .edits) (first (op .plan .edits)) refl follows asked in
     ap (λ (x : COperation). x .next) (own o op (k .known)) ∙ packed-over op ended
+
+-- Numbers of an operation that keeps the rule stand for it, unless they are those of the end.
+pub stands-or-ended : (o : COperation) (op : Op) → rule op ≡ true → few (op .plan .edits) ≡ true → o ≡ packed op → (o .next ≡ 6) ⊎ (unpacked o ≡ KnownOp.Known op)
+stands-or-ended o op r h e = go (over (op .plan)) refl
+  where
+    go : (t : Bool) → over (op .plan) ≡ t → (o .next ≡ 6) ⊎ (unpacked o ≡ KnownOp.Known op)
+    go true v = inl (ap (λ (x : COperation). x .next) e ∙ packed-over op v)
+    go false v = inr (ap unpacked e ∙ unpacks-packed op r h v)
 
 -- Replies: the number of the one that is said, and none over 3.
 

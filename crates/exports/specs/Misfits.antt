@@ -1,16 +1,18 @@
--- Line 11 of the table in words, over the numbers and the bytes that a caller passes.
+-- Line 11 of the table in words, over the numbers and the bytes that a caller passes. Nothing here says how numbers are read: an operation's own numbers
+-- are `packed` of it, and every one that a start or a step hands out is `few` (stilefray: start-few, step-few).
 use Prim.Native.Nat.{ℕ, _<_}
 use mathlib.Core.Path.{_≡_}
-use mathlib.Core.Bool.{false}
+use mathlib.Core.Bool.{true}
 use mathlib.Core.List.{List}
 use lib.ListN.{length}
 use Rattle.running.specs.declared.Op.{Op}
 use Rattle.rule.specs.Rule.{rule}
 use Rattle.operations.specs.declared.COperation.{COperation}
-use Rattle.operations.specs.Unpacks.{KnownOp, unpacked}
+use Rattle.numbers.specs.Packs.{few, packed}
 
 -- 11 BadCall: each clause of the line. `lent` is 1 where a value is lent and 2 where a buffer is, of `len` bytes; `fresh` is 1 before the first step;
--- the replies are 0 begin, 1 done, 2 not ready, 3 failed; `next` is 6 after the end.
+-- the replies are 0 begin, 1 done, 2 not ready, 3 failed; `next` is 6 after the end. An operation that has ended keeps the rule, so that of its numbers
+-- the clause on the end speaks alone.
 pub data Misfits (o : COperation) (y : ℕ) (region value buffer : List ℕ) : Type 0 where
   -- "region buffer not S bytes,
   region-buffer : (length region ≡ o .s → ⊥) → Misfits o y region value buffer
@@ -26,7 +28,5 @@ pub data Misfits (o : COperation) (y : ℕ) (region value buffer : List ℕ) : T
   no-reply : 3 < y → Misfits o y region value buffer
   -- a step after the end,
   after-the-end : o .next ≡ 6 → Misfits o y region value buffer
-  -- numbers that no start and no step hands out: those of no running operation,
-  nothing-runs : unpacked o ≡ KnownOp.Unknown → Misfits o y region value buffer
-  -- or a running operation that breaks the written rule"
-  rule-broken : {op : Op} → unpacked o ≡ KnownOp.Known op → rule op ≡ false → Misfits o y region value buffer
+  -- or numbers of no running operation that keeps the written rule which every one handed back by a start or a step keeps"
+  no-operation : ((op : Op) → rule op ≡ true → few (op .plan .edits) ≡ true → o ≡ packed op → ⊥) → Misfits o y region value buffer

@@ -16,13 +16,12 @@ pub use stepped::stilefray_start_initialise;
 pub use stepped::stilefray_start_invalidate;
 pub use stepped::stilefray_start_zeroise;
 pub use stepped::stilefray_step;
-ghost use mathlib.Core.Path.{_≡_};
-ghost use Rattle.crc32.specs.Crc.{checksum};
+ghost use Rattle.stilefray.specs.Allows.{ChecksumAllows};
 
 // The checksum alone.
 #[no_mangle]
 pub extern "C" fn stilefray_checksum(bytes: &[u8]) -> u32
-    ensures { λ r. ⌜ r ≡ checksum (now (bytes .entry)) ⌝ }
+    ensures { λ r. ⌜ ChecksumAllows (now (bytes .entry)) r ⌝ }
 {
     crc32::checksum(bytes)
 }

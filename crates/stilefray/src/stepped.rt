@@ -1,9 +1,7 @@
 // The stepped form: one flash service at a time.
 ghost use mathlib.Core.Path.{_≡_};
-ghost use Rattle.format.specs.declared.Removal.{Removal};
-ghost use Rattle.running.specs.Starts.{getStarted, appendStarted, removeStarted, collectStarted, initialiseStarted};
-ghost use Rattle.numbers.specs.Packs.{startNumbers};
-ghost use Rattle.stilefray.specs.Stepped.{badCall, stepNumbers, stepRegion, stepBuffer};
+ghost use Rattle.stilefray.specs.Stepped.{badCall};
+ghost use Rattle.stilefray.specs.Allows.{StartGetAllows, StartAppendAllows, StartInvalidateAllows, StartZeroiseAllows, StartCollectAllows, StartInitialiseAllows, StepAllows};
 use numbers::CStart;
 use numbers::CStepped;
 use operations::COperation;
@@ -14,42 +12,42 @@ use running::Request;
 
 #[no_mangle]
 pub extern "C" fn stilefray_start_get(s: usize, n: usize, key: u64, capacity: usize) -> CStart
-    ensures { λ r. ⌜ r ≡ startNumbers (getStarted s n key capacity) ⌝ }
+    ensures { λ r. ⌜ StartGetAllows s n key capacity r ⌝ }
 {
     numbers::pack_start(running::start_get(s, n, key, capacity))
 }
 
 #[no_mangle]
 pub extern "C" fn stilefray_start_append(s: usize, n: usize, key: u64, len: usize) -> CStart
-    ensures { λ r. ⌜ r ≡ startNumbers (appendStarted s n key len) ⌝ }
+    ensures { λ r. ⌜ StartAppendAllows s n key len r ⌝ }
 {
     numbers::pack_start(running::start_append(s, n, key, len))
 }
 
 #[no_mangle]
 pub extern "C" fn stilefray_start_invalidate(s: usize, n: usize, key: u64) -> CStart
-    ensures { λ r. ⌜ r ≡ startNumbers (removeStarted Removal.Invalidate s n key) ⌝ }
+    ensures { λ r. ⌜ StartInvalidateAllows s n key r ⌝ }
 {
     numbers::pack_start(running::start_invalidate(s, n, key))
 }
 
 #[no_mangle]
 pub extern "C" fn stilefray_start_zeroise(s: usize, n: usize, key: u64) -> CStart
-    ensures { λ r. ⌜ r ≡ startNumbers (removeStarted Removal.Zeroise s n key) ⌝ }
+    ensures { λ r. ⌜ StartZeroiseAllows s n key r ⌝ }
 {
     numbers::pack_start(running::start_zeroise(s, n, key))
 }
 
 #[no_mangle]
 pub extern "C" fn stilefray_start_collect(s: usize, n: usize) -> CStart
-    ensures { λ r. ⌜ r ≡ startNumbers (collectStarted s n) ⌝ }
+    ensures { λ r. ⌜ StartCollectAllows s n r ⌝ }
 {
     numbers::pack_start(running::start_collect(s, n))
 }
 
 #[no_mangle]
 pub extern "C" fn stilefray_start_initialise(s: usize, n: usize, key: u64) -> CStart
-    ensures { λ r. ⌜ r ≡ startNumbers (initialiseStarted s n key) ⌝ }
+    ensures { λ r. ⌜ StartInitialiseAllows s n key r ⌝ }
 {
     numbers::pack_start(running::start_initialise(s, n, key))
 }
@@ -72,9 +70,7 @@ pub extern "C" fn stilefray_step(
     value: &[u8],
     buffer: &mut [u8],
 ) -> CStepped
-    ensures { λ r. ⌜ (r ≡ stepNumbers op reply (now (region .entry)) (now (value .entry)) (now (buffer .entry)))
-        × (now (region .exit) ≡ stepRegion op reply (now (region .entry)) (now (value .entry)) (now (buffer .entry)))
-        × (now (buffer .exit) ≡ stepBuffer op reply (now (region .entry)) (now (value .entry)) (now (buffer .entry))) ⌝ }
+    ensures { λ r. ⌜ StepAllows op reply (now (region .entry)) (now (value .entry)) (now (buffer .entry)) r (now (region .exit)) (now (buffer .exit)) ⌝ }
 {
     if !operations::stands(op) {
         return bad_call(op);

@@ -1,0 +1,69 @@
+-- What each of the fourteen exports' contracts allows: its answer, and what it leaves in the bytes that it was lent to alter. The contracts cite these names, and
+-- exports says of each that it allows one result.
+use Prim.Native.Nat.{ℕ}
+use mathlib.Core.Path.{_≡_}
+use mathlib.Core.List.{List}
+use Rattle.crc32.specs.Crc.{checksum}
+use Rattle.format.specs.declared.Removal.{Removal}
+use Rattle.store.specs.Read.{getOf}
+use Rattle.store.specs.Write.{appendOf, removeOf, initialiseOf}
+use Rattle.store.specs.Collect.{collectOf}
+use Rattle.running.specs.Starts.{getStarted, appendStarted, removeStarted, collectStarted, initialiseStarted}
+use Rattle.replies.specs.declared.CAnswer.{CAnswer}
+use Rattle.replies.specs.Answers.{answerNumbers}
+use Rattle.operations.specs.declared.COperation.{COperation}
+use Rattle.numbers.specs.declared.CStart.{CStart}
+use Rattle.numbers.specs.declared.CStepped.{CStepped}
+use Rattle.numbers.specs.Packs.{startNumbers}
+use Rattle.stilefray.specs.Stepped.{stepNumbers, stepRegion, stepBuffer}
+
+-- The one-call form: an answer, and get's buffer or the image at exit.
+
+abbrev pub GetKeyAllows : List ℕ → ℕ → ℕ → ℕ → List ℕ → CAnswer → List ℕ → Type 0
+GetKeyAllows image s n key buffer r buffer′ = (r ≡ answerNumbers (getOf image s n key buffer .answer)) × (buffer′ ≡ getOf image s n key buffer .buffer)
+
+abbrev pub AppendKeyAllows : List ℕ → ℕ → ℕ → ℕ → List ℕ → CAnswer → List ℕ → Type 0
+AppendKeyAllows image s n key value r image′ = (r ≡ answerNumbers (appendOf image s n key value .answer)) × (image′ ≡ appendOf image s n key value .image)
+
+abbrev pub InvalidateKeyAllows : List ℕ → ℕ → ℕ → ℕ → CAnswer → List ℕ → Type 0
+InvalidateKeyAllows image s n key r image′ =
+    (r ≡ answerNumbers (removeOf Removal.Invalidate image s n key .answer)) × (image′ ≡ removeOf Removal.Invalidate image s n key .image)
+
+abbrev pub ZeroiseKeyAllows : List ℕ → ℕ → ℕ → ℕ → CAnswer → List ℕ → Type 0
+ZeroiseKeyAllows image s n key r image′ =
+    (r ≡ answerNumbers (removeOf Removal.Zeroise image s n key .answer)) × (image′ ≡ removeOf Removal.Zeroise image s n key .image)
+
+abbrev pub GarbageCollectAllows : List ℕ → ℕ → ℕ → CAnswer → List ℕ → Type 0
+GarbageCollectAllows image s n r image′ = (r ≡ answerNumbers (collectOf image s n .answer)) × (image′ ≡ collectOf image s n .image)
+
+abbrev pub InitialiseAllows : List ℕ → ℕ → ℕ → ℕ → CAnswer → List ℕ → Type 0
+InitialiseAllows image s n key r image′ = (r ≡ answerNumbers (initialiseOf image s n key .answer)) × (image′ ≡ initialiseOf image s n key .image)
+
+-- The stepped form's starts: a refusal's number and the numbers of a running operation.
+
+abbrev pub StartGetAllows : ℕ → ℕ → ℕ → ℕ → CStart → Type 0
+StartGetAllows s n key capacity r = r ≡ startNumbers (getStarted s n key capacity)
+
+abbrev pub StartAppendAllows : ℕ → ℕ → ℕ → ℕ → CStart → Type 0
+StartAppendAllows s n key len r = r ≡ startNumbers (appendStarted s n key len)
+
+abbrev pub StartInvalidateAllows : ℕ → ℕ → ℕ → CStart → Type 0
+StartInvalidateAllows s n key r = r ≡ startNumbers (removeStarted Removal.Invalidate s n key)
+
+abbrev pub StartZeroiseAllows : ℕ → ℕ → ℕ → CStart → Type 0
+StartZeroiseAllows s n key r = r ≡ startNumbers (removeStarted Removal.Zeroise s n key)
+
+abbrev pub StartCollectAllows : ℕ → ℕ → CStart → Type 0
+StartCollectAllows s n r = r ≡ startNumbers (collectStarted s n)
+
+abbrev pub StartInitialiseAllows : ℕ → ℕ → ℕ → CStart → Type 0
+StartInitialiseAllows s n key r = r ≡ startNumbers (initialiseStarted s n key)
+
+-- A step: its numbers, and region buffer and buffer at exit.
+abbrev pub StepAllows : COperation → ℕ → List ℕ → List ℕ → List ℕ → CStepped → List ℕ → List ℕ → Type 0
+StepAllows op reply region value buffer r region′ buffer′ =
+    (r ≡ stepNumbers op reply region value buffer) × (region′ ≡ stepRegion op reply region value buffer) × (buffer′ ≡ stepBuffer op reply region value buffer)
+
+-- The checksum alone.
+abbrev pub ChecksumAllows : List ℕ → ℕ → Type 0
+ChecksumAllows bytes r = r ≡ checksum bytes
