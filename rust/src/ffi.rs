@@ -53,7 +53,7 @@ pub struct Operation {
     pub key: u64,
     /// The length of what is lent, named at the start.
     pub len: usize,
-    /// The edit's region. Erases: the next one to erase, or `at` where none is left.
+    /// The edit's region. Erases: the next one to erase, or `at` or more where none is left.
     pub region: usize,
     /// Lay, invalidate, zeroise: the record's place in its region. Erases: the region after the last to erase.
     pub at: usize,

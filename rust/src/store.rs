@@ -88,7 +88,8 @@ impl<'a, F: Flash> Store<'a, F> {
     }
 
     /// Sees to it that the chip is one of this store's, by its main key: `Complete(0)`, it was and nothing changed; `Written`, it was
-    /// erased and begun anew. Refused: BadGeometry, BadKey, FlashFailed.
+    /// erased and begun anew. Refused: BadGeometry, BadKey, FlashFailed; and what an append is refused by, where the flash had not
+    /// erased what it said it had.
     pub fn initialise(&mut self, key: u64) -> Answer {
         let running = Running::initialise(self.region_size(), self.regions, key)?;
         self.run(running, &[], &mut [])

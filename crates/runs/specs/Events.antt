@@ -75,8 +75,8 @@ pub data Left (c : Call) (image : List ℕ) (s n : ℕ) (image′ : List ℕ) : 
   erased-some : (k : ℕ) → image′ ≡ eraseAll s (take k (erasesOf c image s n)) image → Left c image s n image′
   as-after : image′ ≡ imageAfter c image s n → Left c image s n image′
 
--- A key is bound on a well-formed image, and its value is found by a get into this buffer: in one go; and taken one service at a time, with this region buffer, anything lent
--- for a value and any waiting between, by the listed services, n reads at most, and the image stays.
+-- A key is bound on a well-formed image, and its value is found by a get into this buffer: in one go; and taken one service at a time, with this
+-- region buffer, anything lent for a value and any waiting between, by the listed services, n reads at most, and the image stays.
 pub record Found (s n : ℕ) (image : List ℕ) (key : ℕ) (value buffer region lent : List ℕ) : Type 0 where
   pub well-formed : WellFormed s n image
   pub bound : Bound s n image key value

@@ -173,6 +173,13 @@ module _ (op : Op) (y : Reply) (region value buffer : List ℕ) where
       of-failed (done l) q = absurd (let z : _≡_ {A = ℕ} 0 1 = cc in omega arith)
       of-failed (waiting l) q = absurd (let z : _≡_ {A = ℕ} 0 1 = cc in omega arith)
 
+  pub fits-when : (fitsHere op y region value buffer ≡ true) ↔ (Misfit op y region value buffer → ⊥)
+  fits-when = (no-misfit, λ none. go (fitsHere op y region value buffer) refl none)
+    where
+      go : (t : Bool) → fitsHere op y region value buffer ≡ t → (Misfit op y region value buffer → ⊥) → t ≡ true
+      go true e none = refl
+      go false e none = absurd (none (misfit e))
+
   pub eleven-when : (requestRefusal (stepped op y region value buffer .request) ≡ 11) ↔ Misfit op y region value buffer
   eleven-when = (λ e. misfit (is-bad-call op y region value buffer (step-refuses op y region value buffer) e), is-eleven (step-refuses op y region value buffer))
 

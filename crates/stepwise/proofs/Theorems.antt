@@ -35,7 +35,7 @@ use Rattle.stepwise.specs.Ahead.{Given, next, after, Fair, dones, taken,
 use Rattle.stepwise.proofs.Starts.{start-ruled, inside}
 use Rattle.stepwise.proofs.Begins.{refuses-when, runs-when}
 use Rattle.stepwise.proofs.Exactly.{still-there}
-use Rattle.stepwise.proofs.Misfits.{fits, eleven-when, twelve-when}
+use Rattle.stepwise.proofs.Misfits.{fits, fits-when, eleven-when, twelve-when}
 use Rattle.stepwise.proofs.Lays.{steps, steps-inside, steps-alter, steps-leave, leaves-rest, steps-fill}
 use Rattle.stepwise.proofs.Asks.{call-asks, append-lays-lent}
 use Rattle.stepwise.proofs.Falls.{at-start, falls, rises-never, none-left, taken-at-most, says, ends-always}
@@ -152,6 +152,10 @@ pub reply-fits : (op : Op) (y : Reply) (region value buffer : List ℕ) → rule
 reply-fits op y region value buffer k a f l t = fits op y region value buffer k a f l t
 
 -- "Exactly when".
+
+-- The test that a step makes of its call, `fitsHere`, passes exactly when no clause of line 11 speaks of the call.
+pub fits-exactly-when : (op : Op) (y : Reply) (region value buffer : List ℕ) → (fitsHere op y region value buffer ≡ true) ↔ (Misfit op y region value buffer → ⊥)
+fits-exactly-when op y region value buffer = fits-when op y region value buffer
 
 -- 11 BadCall, exactly when one of the clauses of its line says so.
 pub bad-call-exactly-when : (op : Op) (y : Reply) (region value buffer : List ℕ)
