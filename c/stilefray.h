@@ -241,13 +241,14 @@ stilefray_start stilefray_start_initialise(size_t s, size_t n, uint64_t key);
  *   READ    read the s bytes of `region`, image places region * s on, into the region buffer;
  *   WRITE   write the region buffer's bytes `from` up to `to` at the image place `place` on;
  *   ERASE   erase `region`;
- *   ANSWER  nothing: the operation has ended with `answer`, as the call of the one-call form answers. Written is answered after the
+ *   ANSWER  nothing: the operation has ended with `answer` (but for BAD_CALL, see below), as the call of the one-call form answers. Written is answered after the
  *           host confirms the write.
  * In this order and no others: get, reads in probe order up to the deciding region; append, all n reads, then one write; invalidate and
  * zeroise, get's reads, then one write; collect, for each region a read and, where due, an erase (2n at most); initialise, get's reads
  * and, if it must erase, n erases in number order and append's services (3n + 1 at most). A refusal ends the list where it is known.
  * Whatever bytes are read and whatever is replied, no request lies outside the chip, and an operation has answered once so many services
- * were said to be done (get n, append and the removals n + 1). One whose host is never ready is asked for ever.
+ * were said to be done, in steps that were not BAD_CALL (get n, append and the removals n + 1). One whose host is never ready is asked
+ * for ever.
  *
  * What a step leaves: `region` is altered only by the step that asks for a write: the bytes to write then lie in it at their own place
  * in the region, and the rest stays as last read. `buffer` is altered only by the step of a get that answers COMPLETE, BUFFER_TOO_SMALL

@@ -4,17 +4,22 @@
 use Prim.Native.Nat.{ℕ}
 use native.Mathlib.Omega.{arith}
 use mathlib.Core.Path.{_≡_, refl, sym, _∙_, ap, subst}
+use mathlib.Core.Bool.{Bool, true, false}
 use mathlib.Core.List.{List}
 use mathlib.Core.Logic.{_⊎_, inl, inr, ⊎-elim, _↔_}
 use Rattle.plans.specs.declared.Answer.{Answer}
+use Rattle.running.specs.declared.Op.{Op}
+use Rattle.running.specs.declared.Reply.{Reply}
 use Rattle.running.specs.declared.Request.{Request}
-use Rattle.steps.specs.Step.{stepped}
+use Rattle.steps.specs.Step.{fitsHere, stepped}
 use Rattle.replies.specs.Answers.{requestNumbers}
 use Rattle.operations.specs.declared.COperation.{COperation}
 use Rattle.operations.specs.Unpacks.{replyNumber}
 use Rattle.numbers.specs.declared.CStepped.{CStepped}
-use Rattle.stilefray.specs.Stepped.{stepNumbers, stepRegion, stepBuffer}
+use Rattle.numbers.proofs.Own.{own}
+use Rattle.stilefray.specs.Stepped.{badCall, packedStep, stepNumbers, stepRegion, stepBuffer}
 use Rattle.stepwise.specs.Asked.{Inside, Reads, complete, too-short, wrong-sum}
+use Rattle.stepwise.specs.Misfit.{Misfit}
 use Rattle.stepwise.proofs.Theorems as Steps
 use Rattle.exports.specs.Misfits.{Misfits}
 use Rattle.exports.specs.Inside.{InsideNumbers, ReadsNumbers}
@@ -74,3 +79,21 @@ module _ (o : COperation) (y : ℕ) (region value buffer : List ℕ) where
           ⊎-elim inl
           (λ g. let (next, aim) = looks-get k (g .is-get) in inr (next, aim, subst (λ (q : Request). ReadsNumbers (requestNumbers q)) (sym (g .answers)) (answers (g .read))))
           (Steps.buffer-altered-only op said region value buffer)
+
+  -- A call that a clause of line 11 speaks of alters nothing.
+  pub misfits-keep : Misfits o y region value buffer
+      → (stepNumbers o y region value buffer ≡ badCall o) × (stepRegion o y region value buffer ≡ region) × (stepBuffer o y region value buffer ≡ buffer)
+  misfits-keep m = go (called o y region value buffer)
+    where
+      unfit : (op : Op) (said : Reply) → Misfit op said region value buffer → fitsHere op said region value buffer ≡ false
+      unfit op said m = on (fitsHere op said region value buffer) refl
+        where
+          on : (t : Bool) → fitsHere op said region value buffer ≡ t → t ≡ false
+          on true e = absurd (Steps.fits-exactly-when op said region value buffer .0 e m)
+          on false e = refl
+
+      go : {t : CStepped} {r b : List ℕ} → Called o y region value buffer t r b → (t ≡ badCall o) × (r ≡ region) × (b ≡ buffer)
+      go (nothing _) = (refl, refl, refl)
+      go (runs op said k f) =
+          let (s, r, b) = Steps.bad-call op said region value buffer (unfit op said (of-numbers o y region value buffer k f m)) in
+          (ap packedStep s ∙ ap badCall (sym (own o op (k .known))), r, b)

@@ -11,13 +11,13 @@ use Rattle.replies.specs.declared.CAnswer.{CAnswer}
 use Rattle.operations.specs.declared.COperation.{COperation}
 use Rattle.numbers.specs.declared.CStart.{CStart}
 use Rattle.numbers.specs.declared.CStepped.{CStepped}
-use Rattle.stilefray.specs.Stepped.{stepNumbers, stepRegion, stepBuffer}
+use Rattle.stilefray.specs.Stepped.{badCall, stepNumbers, stepRegion, stepBuffer}
 use Rattle.stilefray.specs.Allows.{GetKeyAllows, AppendKeyAllows, InvalidateKeyAllows, ZeroiseKeyAllows, GarbageCollectAllows, InitialiseAllows}
 use Rattle.stilefray.specs.Allows.{StartGetAllows, StartAppendAllows, StartInvalidateAllows, StartZeroiseAllows, StartCollectAllows, StartInitialiseAllows}
 use Rattle.stilefray.specs.Allows.{StepAllows, ChecksumAllows}
 use Rattle.exports.specs.Misfits.{Misfits}
 use Rattle.exports.specs.Inside.{InsideNumbers, ReadsNumbers}
-use Rattle.exports.proofs.Numbers.{bad-call, flash-failed, inside, region-altered, buffer-altered}
+use Rattle.exports.proofs.Numbers.{bad-call, flash-failed, inside, region-altered, buffer-altered, misfits-keep}
 use Rattle.exports.proofs.Handed.{answers-6, rest-left, asked-again}
 
 -- One step, over any numbers and any bytes.
@@ -43,6 +43,11 @@ pub after-the-end-bad-call : (o : COperation) (y : ℕ) (region value buffer : L
     → (y′ : ℕ) (region′ value′ buffer′ : List ℕ) → stepNumbers (stepNumbers o y region value buffer .op) y′ region′ value′ buffer′ .request .answer .refusal ≡ 11
 after-the-end-bad-call o y region value buffer fits e y′ region′ value′ buffer′ =
     bad-call-exactly-when _ y′ region′ value′ buffer′ .1 (Misfits.after-the-end (ended-is-6 o y region value buffer fits e))
+
+-- "BadCall leaves the running operation as it was": all its numbers, and region and buffer too.
+pub bad-call-keeps-all : (o : COperation) (y : ℕ) (region value buffer : List ℕ) → Misfits o y region value buffer
+    → (stepNumbers o y region value buffer ≡ badCall o) × (stepRegion o y region value buffer ≡ region) × (stepBuffer o y region value buffer ≡ buffer)
+bad-call-keeps-all o y region value buffer m = misfits-keep o y region value buffer m
 
 -- What a step asks for lies in the chip that its numbers name, whatever they are: BadCall asks for nothing.
 pub step-inside : (o : COperation) (y : ℕ) (region value buffer : List ℕ) → InsideNumbers (o .s) (o .n) (stepNumbers o y region value buffer .request)

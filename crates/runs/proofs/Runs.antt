@@ -3,7 +3,7 @@
 use Prim.Native.Nat.{ℕ, _≤_, _<_}
 use native.Mathlib.Omega.{arith}
 use mathlib.Core.Path.{_≡_, refl, sym, _∙_, ap, subst}
-use mathlib.Core.Bool.{true}
+use mathlib.Core.Bool.{true, false, true≢false}
 use mathlib.Core.List.{List}
 use lib.ListN.{length, take, replicate}
 use lib.Seq.{take-all}
@@ -97,6 +97,15 @@ module _ (c : Call) (op : Op) (image region value buffer : List ℕ) (s n : ℕ)
       go : {run : Run} → Stands s (bytesWritten c image s n) (readies beats) image (services c image s n) (outOf c image s n buffer) run → Ends c image s n buffer run
       go (goes-on l a d i) = absurd (omega arith)
       go (ended l a i b d) = record { answer = a; image-is = i; buffer-is = b; did = d }
+
+  pub run-answered : (beats : List Beat) → asks (drive s beats (begun op image region value buffer) .host .request) ≡ false
+      → Ends c image s n buffer (drive s beats (begun op image region value buffer))
+  run-answered beats h = go (run-stands beats) h
+    where
+      go : {run : Run} → Stands s (bytesWritten c image s n) (readies beats) image (services c image s n) (outOf c image s n buffer) run → asks (run .host .request) ≡ false
+          → Ends c image s n buffer run
+      go (goes-on l a d i) h = absurd (true≢false (sym a ∙ h))
+      go (ended l a i b d) h = record { answer = a; image-is = i; buffer-is = b; did = d }
 
   pub run-goes-on : (beats : List Beat) → readies beats < length (services c image s n)
       → asks (drive s beats (begun op image region value buffer) .host .request) ≡ true

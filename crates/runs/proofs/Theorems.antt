@@ -9,7 +9,7 @@ use Prim.Native.Nat.{ℕ, _+_, _*_, _^_, _≤_, _<_}
 use native.Mathlib.Nat.{le-trans}
 use native.Mathlib.Omega.{arith}
 use mathlib.Core.Path.{_≡_, refl, _∙_, ap}
-use mathlib.Core.Bool.{true}
+use mathlib.Core.Bool.{true, false}
 use mathlib.Core.List.{List, [], _∷_, _++_, map}
 use mathlib.Core.Logic.{inl}
 use lib.ListN.{length, take, drop, replicate}
@@ -44,7 +44,7 @@ use Rattle.stepwise.proofs.Begins.{runs-else}
 use Rattle.runs.specs.Host.{Run, Beat, ready, Same, serviceDone, regionMeanwhile, failed, begun, drive, readies, Lends, lends-get, bufferOf}
 use Rattle.runs.specs.Services.{services, bytesWritten, servicesDone, erasesIn, erasesOf, UpTo, Sweeps, Ends}
 use Rattle.runs.specs.Events.{Event as Happening, imageAfterEvent, imageAfterEvents, TypedIn, callOf, its-call-spares, SparesThrough, Left, Found}
-use Rattle.runs.proofs.Runs.{run-unwaited, run-ends, run-goes-on, run-middle, run-rests, image-end}
+use Rattle.runs.proofs.Runs.{run-unwaited, run-ends, run-answered, run-goes-on, run-middle, run-rests, image-end}
 use Rattle.runs.proofs.Refuses.{Listed, refused-so}
 use Rattle.stepwise.proofs.Falls.{most-any}
 use Rattle.runs.proofs.Bounds.{bound}
@@ -76,6 +76,10 @@ module _ (c : Call) (image region value buffer : List ℕ) (s n : ℕ) (reads : 
   -- listed in 01 [..], with the answer and image of the one-call form". While it is not ready the host may be half through a read.
   pub one-service-at-a-time : (beats : List Beat) → length (services c image s n) ≤ readies beats → Ends c image s n buffer (run beats)
   one-service-at-a-time = run-ends c (freshOf c s n) image region value buffer s n starts (reads .fits) long lends
+
+  -- What a host sees: once the operation has answered, it has ended so, by these services.
+  pub answered-is-ended : (beats : List Beat) → asks (run beats .host .request) ≡ false → Ends c image s n buffer (run beats)
+  answered-is-ended = run-answered c (freshOf c s n) image region value buffer s n starts (reads .fits) long lends
 
   -- "the longest 3N+1"
   pub ends-in-time : (beats : List Beat) → 3 * n + 1 ≤ readies beats → Ends c image s n buffer (run beats)

@@ -58,8 +58,8 @@ callOf (in-one c) = c
 callOf (in-steps c region beats) = c
 callOf (fails c region beats bytes) = c
 
--- "until its own key is removed or initialise erases the chip": the call of an event does neither to the key on this image, or it was broken off
--- before it did anything.
+-- "until its own key is removed or initialise erases the chip": the call of an event does neither to the key on this image, or the event left the
+-- image as it was, as one does that is broken off before its first write or erase.
 pub data SparesIn (s n key : ℕ) (image : List ℕ) (v : Event) : Type 0 where
   its-call-spares : Spares s n key image (callOf v) → SparesIn s n key image v
   untouched : imageAfterEvent s n v image ≡ image → SparesIn s n key image v

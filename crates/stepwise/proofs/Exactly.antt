@@ -67,10 +67,10 @@ edit-none s len (Edit.Erase r) = refl
 
 request-low : (s len key n : ℕ) (f : First) (t : Then) → endRefusal 11 t ≤ 10 → requestRefusal (requestFor s len (waitFirst key n f t)) ≤ 10
 request-low s len key n (First.Do e) t h = omega (arith, edit-none s len e)
-request-low s len key n First.Nothing (Then.Ends answer) h = h
-request-low s len key n First.Nothing (Then.Seek aim i seen) h = h
-request-low s len key n First.Nothing (Then.Sweep r k) h = h
-request-low s len key n First.Nothing (Then.Gives r x again) h = h
+request-low s len key n First.Nothing (Then.Ends answer) h = omega (arith, h)
+request-low s len key n First.Nothing (Then.Seek aim i seen) h = omega (arith, h)
+request-low s len key n First.Nothing (Then.Sweep r k) h = omega (arith, h)
+request-low s len key n First.Nothing (Then.Gives r x again) h = omega (arith, h)
 
 -- What a lookup or a sweep ends with is none of the stepped form's own refusals.
 

@@ -191,9 +191,9 @@ none-ahead op k = none-left op k
 pub nothing-runs-on : (c : Call) (s n : ℕ) (op : Op) → startOf c s n ≡ Start.Runs op → (gs : List Given) → taken op gs + ahead (after op gs) ≤ most c n
 nothing-runs-on c s n op h gs = taken-at-most c s n op h gs
 
--- And an operation ends, in the hands of a chip that lies about its reads, writes and erases too: begun, and lent buffers of the right lengths with
--- any bytes in them, it answers by the time that as many "done" were said as the number is at the start. (A host that is never ready is asked for
--- ever: that is the host's.)
+-- And an operation ends, in the hands of a chip that lies about its reads, writes and erases too: begun, never told "begin" again, and lent buffers of
+-- the right lengths with any bytes in them, it answers by the time that as many "done" were said as the number is at the start. (A host that is
+-- never ready is asked for ever: that is the host's.)
 pub ends-whatever-the-host : (c : Call) (s n : ℕ) (op : Op) → startOf c s n ≡ Start.Runs op
     → (region value buffer : List ℕ) → length region ≡ s → LentRight (op .lent) value buffer
     → (gs : List Given) → Every (Fair op) gs → most c n ≤ dones gs → Answers (stepped op Reply.Begin region value buffer .op) gs

@@ -40,8 +40,8 @@ pub data Inside (s n : ℕ) : Request → Type 0 where
   erases : {r : ℕ} → r < n → Inside s n (Request.Erase r)
   answers : {answer : Answer} → Inside s n (Request.Answers answer)
 
--- What an operation of a call may ask for, or answer: reads; append and initialise the write of a record, a removal the write that makes one dead,
--- collect and initialise an erase. No other operation asks for an erase.
+-- What an operation of a call may ask for, or answer: reads; append and initialise the write of a record, a removal a write of the form that makes one
+-- dead, collect and initialise an erase. No other operation asks for an erase.
 pub data MayAsk (s : ℕ) : Call → Request → Type 0 where
   any-reads : {c : Call} {r : ℕ} → MayAsk s c (Request.Read r)
   any-answers : {c : Call} {answer : Answer} → MayAsk s c (Request.Answers answer)
