@@ -241,8 +241,8 @@ stilefray_start stilefray_start_initialise(size_t s, size_t n, uint64_t key);
  *   READ    read the s bytes of `region`, image places region * s on, into the region buffer;
  *   WRITE   write the region buffer's bytes `from` up to `to` at the image place `place` on;
  *   ERASE   erase `region`;
- *   ANSWER  nothing: the operation has ended with `answer` (but for BAD_CALL, see below), as the call of the one-call form answers. Written is answered after the
- *           host confirms the write.
+ *   ANSWER  nothing: the operation has ended with `answer` (but for BAD_CALL, see below), as the call of the one-call form answers.
+ *           Written is answered after the host confirms the write.
  * In this order and no others: get, reads in probe order up to the deciding region; append, all n reads, then one write; invalidate and
  * zeroise, get's reads, then one write; collect, for each region a read and, where due, an erase (2n at most); initialise, get's reads
  * and, if it must erase, n erases in number order and append's services (3n + 1 at most). A refusal ends the list where it is known.

@@ -7,19 +7,20 @@
 //! - [`stepped`]: the operations as plain data, one flash service at a time, with no flash and no buffer of their own.
 //! - [`image`](mod@image): one call for an operation, on an image of the chip in memory.
 //!
-//! Every call takes whatever it is given, and answers, as long as its flash does not stay busy for ever; what it refuses it refuses by one of
-//! twelve [`Refusal`]s. The crate allocates nothing, has nothing in it that panics, and needs no `std`.
+//! Every call takes whatever it is given, and answers, as long as its flash does not stay busy for ever; what it refuses it refuses by
+//! one of twelve [`Refusal`]s. The crate allocates nothing, has nothing in it that panics, and needs no `std`.
 //!
 //! # What is proved
 //!
 //! Of every call of the archive, for every input: it answers as its definition says, alters nothing but what it is lent to alter, and
 //! ends. Of an operation taken one service at a time and lent buffers of the right lengths, whatever the flash replies and whatever
 //! bytes it hands over: it asks for nothing outside the chip, and ends after at most so many services that are said to be done, on a
-//! chip of N regions: get N, append and the removals N + 1, collect 2 N, initialise 3 N + 1. A flash that is never ready is asked for ever: a call of [`Store`] then does not
-//! return, and [`Store::serve`] returns after each request. On a well-formed chip, as a blank one is and a [`Store::initialise`] that
-//! answers Written makes, to which nothing else writes and whose flash does what it is asked: every value that is stored is found until
-//! its key is removed or the chip erased, also after operations that were broken off between two services. What a write or an erase
-//! leaves that failed halfway, or that a loss of power cut off, is not promised. This crate itself is ordinary Rust, and tested.
+//! chip of N regions: get N, append and the removals N + 1, collect 2 N, initialise 3 N + 1. A flash that is never ready is asked for
+//! ever: a call of [`Store`] then does not return, and [`Store::serve`] returns after each request. On a well-formed chip, as a blank
+//! one is and a [`Store::initialise`] that answers Written makes, to which nothing else writes and whose flash does what it is asked:
+//! every value that is stored is found until its key is removed or the chip erased, also after operations that were broken off between
+//! two services. What a write or an erase leaves that failed halfway, or that a loss of power cut off, is not promised. This crate
+//! itself is ordinary Rust, and tested.
 //!
 //! # Coming from tickv
 //!
