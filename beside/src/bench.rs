@@ -190,4 +190,5 @@ pub fn run() {
     chips.iter().for_each(appends);
     checksums();
     println!("{NOTES}");
+    crate::bench_steps::run();
 }

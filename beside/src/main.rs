@@ -3,6 +3,7 @@
 mod afternoons;
 mod bench;
 mod bench_chip;
+mod bench_steps;
 mod choose;
 mod crate_side;
 mod domain;
