@@ -19,7 +19,7 @@ pub data Typed : Call → Type 0 where
   typed-collect : Typed collect
   typed-initialise : {key : ℕ} → key < 2 ^ 64 → Typed (initialise key)
 
--- "until its own key is removed or initialise erases the chip": a call that does neither to the key on this image
+-- R11.8: until its own key is removed or initialise erases the chip: a call that does neither to the key on this image
 pub data Spares (s n : ℕ) (key : ℕ) (image : List ℕ) : Call → Type 0 where
   spares-get : {k : ℕ} {buffer : List ℕ} → Spares s n key image (get k buffer)
   spares-append : {k : ℕ} {value : List ℕ} → Spares s n key image (append k value)

@@ -65,8 +65,7 @@ pub data MeetsBad (image : List ℕ) (s n : ℕ) (fault : Fault) : Call → Type
   in-lookup : {c : Call} {key : ℕ} {need : Need} {place : ℕ} → Looks c key need → lookupIn key need s image (probes key n) ≡ Looked.Bad fault place → MeetsBad image s n fault c
   in-collect : FirstBad image s n fault → MeetsBad image s n fault collect
 
--- R6.1 to R6.10: number k and call c, for each refusal what the table has under "Comes exactly when". R6.11 and R6.12 are the stepped form's:
--- no line here has them.
+-- R6.1 to R6.10: exactly when refusal k comes to call c, a line for each case. R6.11 and R6.12 are the stepped form's: no line here has them.
 pub data When (image : List ℕ) (s n : ℕ) : ℕ → Call → Type 0 where
   -- R6.1 BadGeometry: S or N is not as R1.2 has it, or the image's length is not.
   bad-geometry : {c : Call} → (Fits image s n → ⊥) → When image s n 1 c
