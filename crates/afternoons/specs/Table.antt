@@ -29,7 +29,7 @@ S = 64
 abbrev pub N : ℕ
 N = 4
 
--- R12.1: an answer by its number and what it carries.
+-- R7.1: an answer by its refusal's number, 0 where it is none, and what it carries.
 abbrev pub said : Answer → List ℕ
 said answer = refusal answer ∷ values answer
 

@@ -209,8 +209,8 @@ pub collect-broken : {s n : ℕ} {image : List ℕ} → WellFormed s n image →
     × ((key : ℕ) (value : List ℕ) → Bound s n (eraseAll s (take k (erasedBy image s n)) image) key value ↔ Bound s n image key value)
 collect-broken w k = Broken.collect-broken w k
 
--- R11.8: the August fault: the key's home region has no room left for the record. If append writes it all the same, it lies in another region,
--- and get finds it.
+-- R11.8: the August fault. The key's home region has no room left for the record; if append writes it all the same, it lies in another region,
+-- and get finds it there.
 pub spilled-is-found : {s n : ℕ} {image : List ℕ} → WellFormed s n image → (key : ℕ) (value : List ℕ) → key < 2 ^ 64 → Bytes value
     → (end : ℕ) → EndsAt (regionOf s image (home key n)) end → s < end + recordLength (length value)
     → appendOf image s n key value .answer ≡ Written

@@ -92,8 +92,8 @@ abbrev pub killLength : Removal → Record → ℕ
 killLength Removal.Invalidate x = 1
 killLength Removal.Zeroise x = x .len
 
--- R3.7: to invalidate, byte 1 with the top bit cleared. To zeroise, version, byte 1 so, byte 2 and key, and 0 for every byte of value and
--- checksum.
+-- R3.7: to invalidate, byte 1 with the top bit cleared.
+-- R3.7: to zeroise, version, byte 1 so, byte 2 and key as they are, and 0 for every byte of value and checksum.
 abbrev pub killBytes : Removal → Record → List ℕ
 killBytes Removal.Invalidate x = getD (deadHeader x) 1 0 ∷ []
 killBytes Removal.Zeroise x = deadHeader x ++ replicate (x .len - headerLength (x .version)) 0

@@ -109,8 +109,7 @@ no-room key len image s n p =
     let t = room-nowhere image s len (probes key n) in
     (λ h r o l. t .0 h r o (members key n r p .0 l), λ k. t .1 (λ r o m. k r o (members key n r p .1 m)))
 
--- R5.4: the first region in probe order that has room, where o plus the record's length is at most S, and whether the record's place there is
--- blank.
+-- R5.4: the first region in probe order that has room for so many bytes from o on, and whether the record's place there is blank.
 pub first-room : (key len : ℕ) (image : List ℕ) (s n r o : ℕ) (blank : Bool)
     → (firstRoom len s image (probes key n) ≡ Room.At r o blank)
     ↔ (FirstRoom image s len (probes key n) r o × (blank ≡ isBlank (take len (drop o (regionOf s image r)))))
@@ -149,8 +148,7 @@ refused-keeps-buffer key buffer image s n l h = refused-buffer image s n key buf
 pub get-alters-nothing : (key : ℕ) (buffer image : List ℕ) (s n : ℕ) → imageAfter (get key buffer) image s n ≡ image
 get-alters-nothing key buffer image s n = refl
 
--- R5.2: get that is not refused has a live record of the key, whose value the buffer takes and whose checksum is right: `get-complete` says the
--- rest.
+-- R5.2: get that is not refused has a live record of the key, whose value the buffer takes and whose checksum is right. See `get-complete`.
 pub get-answers : (key : ℕ) (buffer image : List ℕ) (s n : ℕ) → refusal (answerOf (get key buffer) image s n) ≡ 0
     → Reads image s n (get key buffer)
     × ((r : ℕ)
@@ -162,14 +160,12 @@ get-answers key buffer image s n h = get-fine image s n key buffer h
 
 -- R5.2: get of a live record x of region r, of which the value's bytes are `valueIn`: its length less 15 of them (R4.7).
 module _ (key : ℕ) (buffer image : List ℕ) (s n r : ℕ) (x : Record) (reads : Reads image s n (get key buffer)) (live : lookupIn key Need.Nothing s image (probes key n) ≡ Looked.Live r x) where
-  -- R5.2: a buffer that is shorter is filled with the value's first bytes, and the answer is BufferTooSmall with the value's length. The checksum
-  -- is not looked at.
+  -- R5.2: a shorter buffer is filled with the value's first bytes: BufferTooSmall with the value's length, the checksum not looked at.
   pub get-short : length buffer < valueLength x
       → getOf image s n key buffer ≡ record { answer = Refused (Refusal.BufferTooSmall (valueLength x)); buffer = take (length buffer) (valueIn (regionOf s image r) x) }
   get-short l = got-live image s n buffer reads live ∙ rw (lt-ltb (length buffer) (valueLength x) l)
 
-  -- R5.2: else the value is copied to the front of the buffer, and its bytes after it stay as they were: Complete with the length if the checksum
-  -- is right,
+  -- R5.2: else the value is copied to the front, the bytes after it stay as they were, and the checksum is compared: Complete if it is right,
   pub get-complete : valueLength x ≤ length buffer → checkSumFits (bytesIn (regionOf s image r) x) ≡ true
       → getOf image s n key buffer ≡ record { answer = Complete (valueLength x); buffer = valueIn (regionOf s image r) x ++ drop (valueLength x) buffer }
   get-complete l e = got-live image s n buffer reads live ∙ rw (le-ltb (length buffer) (valueLength x) l, e)
@@ -201,8 +197,7 @@ collect-erases image s n q f = erased-are image s n f q
 pub erases-once : (image : List ℕ) (s n : ℕ) → Distinct (erasedBy image s n)
 erases-once image s n = erased-once image s n
 
--- R5.7: the answer is Freed with S times the number of regions erased: these are the regions that were dead, they are blank now, and the others
--- are as they were.
+-- R5.7: Freed with S times the number of regions erased: these were dead, they are blank now, and the others are as they were.
 pub freed-is-counted : (image : List ℕ) (s n bytes : ℕ) → answerOf collect image s n ≡ Freed bytes
     → (bytes ≡ s * length (erasedBy image s n))
     × ((q : ℕ) → List·Memᴰ q (erasedBy image s n) ↔ ((q < n) × Dead (regionOf s image q)))

@@ -36,8 +36,7 @@ erasedOn Verdict.Stands r rest = rest
 erasedOn Verdict.Erase r rest = r ∷ rest
 erasedOn (Verdict.Bad f p) r rest = []
 
--- R5.7, R5.8: the regions of a list that collect erases, in its order, by the image as it is at first: those that are dead, up to the first
--- bad place.
+-- R5.7, R5.8: the regions of a list that collect erases, in its order, by the image as it is at first: the dead ones before the first bad place.
 unfoldable pub erasedIn : ℕ → List ℕ → List ℕ → List ℕ
 erasedIn s image [] = []
 erasedIn s image (r ∷ rs) = erasedOn (verdict r (regionOf s image r)) r (erasedIn s image rs)
@@ -78,8 +77,8 @@ pub record Appended (image : List ℕ) (s n key : ℕ) (value image′ : List �
   pub others : (q : ℕ) → (q ≡ region → ⊥) → regionOf s image′ q ≡ regionOf s image q
   pub changed : image′ ≡ image → ⊥
 
--- R5.5, R5.6: the record that decides is made dead by its one write. The others of its region are left; the other regions stand, and the image
--- is not what it was.
+-- R5.5, R5.6: the record that decides is made dead by its one write. The others of its region are left; the other regions stand,
+-- and the image is not what it was.
 pub record Removed (how : Removal) (image : List ℕ) (s n key : ℕ) (image′ : List ℕ) : Type 0 where
   pub region : ℕ
   pub rec : Record

@@ -48,7 +48,7 @@ pub data Looks : Call → ℕ → Need → Type 0 where
   remove-looks : {how : Removal} {key : ℕ} → Looks (remove how key) key Need.Nothing
   append-looks : {key : ℕ} {value : List ℕ} → Looks (append key value) key (Need.Room (recordLength (length value)))
 
--- R5.8: the first live record or bad place of a region is no bad place.
+-- R5.8: a region does not end collect: its first live record or bad place is no bad place.
 abbrev pub NotBad : List ℕ → Type 0
 NotBad region = (f : Fault) (o : ℕ) → eventIn region Want.Any ≡ Event.Bad f o → ⊥
 

@@ -1,4 +1,5 @@
--- The plan of an operation after its lookup: a refusal, an answer, or edits and what follows them. One row for each aim in `needOf` and in `plan`, and one in `lentFor` (plans, Fits).
+-- The plan of an operation after its lookup: a refusal, an answer, or edits and what follows them. One row for each aim in `needOf` and in `plan`,
+-- and one in `lentFor` (plans, Fits).
 use Prim.Native.Nat.{ℕ}
 use mathlib.Core.Bool.{Bool, true, false, _&&_, cond}
 use Rattle.format.specs.declared.Record.{Record}
@@ -30,7 +31,7 @@ needOf Aim.Initialise len = Need.Nothing
 abbrev pub writes : Edits → Plan
 writes es = record { edits = es; next = Then.Ends Answer.Written }
 
--- R5.2: a live record decides, and its value is given. Where `again` is true it is initialise's get (R5.9)
+-- R5.2: a live record decides, and its value is given. Where `again` is true this is initialise's get (R5.9).
 abbrev pub gives : ℕ → Record → Bool → Plan
 gives r x again = follows (Then.Gives r x again)
 
@@ -73,6 +74,6 @@ plan Aim.Append n looked = appendPlan looked
 plan (Aim.Remove how) n looked = removePlan how (hitBy looked)
 plan Aim.Initialise n looked = initialisePlan n (hitBy looked)
 
--- R5.9: a value was given, with this answer. If that was initialise's get and refused, every region is erased; else the answer stands.
+-- R5.9: a value was given, with this answer. Where initialise's get is refused every region is erased; else this is the answer.
 abbrev pub givenPlan : ℕ → Bool → Answer → Plan
 givenPlan n again answer = cond (again && startsAnew answer) (anew n) (ends answer)

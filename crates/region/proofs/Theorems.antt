@@ -45,7 +45,7 @@ pub first-decides : (r : List ℕ) (want : Want) (a : List Record) (x : Record) 
     → None (isWanted want) a → isWanted want x ≡ true → eventIn r want ≡ Event.Live x
 first-decides r want a x b e n p = rw e (is-first (isWanted want) a x b (ending r) n p)
 
--- R4.8: a bad place or the end decides it where no record is sought, and only there.
+-- R4.8: a bad place or the end decides it where none of its records is sought, and only there.
 pub stop-decides : (r : List ℕ) (want : Want) (s : Stop) → eventIn r want ≡ eventOf s → None (isWanted want) (records r) × (ending r ≡ s)
 stop-decides r want s h = Search.stop-decides (isWanted want) (records r) (ending r) s h
 

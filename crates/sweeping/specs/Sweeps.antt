@@ -17,7 +17,7 @@ use Rattle.plans.specs.declared.Plan.{Plan}
 use Rattle.sweeping.specs.declared.Verdict.{Verdict}
 use Rattle.plans.specs.Writes.{refuses, follows}
 
--- R5.7: a region with at least one record, and one with none
+-- R5.7: whether a region has no record at all: then it stands
 abbrev pub noRecords : List Record → Bool
 noRecords [] = true
 noRecords (x ∷ xs) = false
