@@ -1,4 +1,4 @@
--- The starred afternoons of document 01, as one statement about the store's definitions. Assumes nothing.
+-- The worked examples R15.1 to R15.10, as one statement about the store's definitions. Assumes nothing.
 use mathlib.Core.Path.{_≡_, refl}
 use mathlib.Core.List.{List, [], _∷_, map}
 use Rattle.crc32.specs.Crc.{shift, shifts, feed, run, checksum}
@@ -25,7 +25,7 @@ columns : (cases : List Case) → Agree cases → map (λ (c : Case). c .compute
 columns [] h = refl
 columns (c ∷ cs) h = λ i. h .0 i ∷ columns cs (h .1) i
 
--- "The starred items stand in a single table proved by one statement about the definitions": what they compute is what the document says.
+-- R15.1 to R15.10: what the definitions compute is what the rules state, in one statement about one table.
 -- Each line is closed, so it computes. It is one `refl` a line, for two columns compared as a whole take more steps than a check allows.
 pub afternoons : map (λ (c : Case). c .computed) table ≡ map (λ (c : Case). c .stated) table
 unfolding shift shifts feed run checksum written isBlank sized geometry keep around outward probe bigEndian littleEndian recordBytes checkSumFits bigEndianAt metOf walkIn walkFrom firstOf firstRefusal lookFrom hitOf applied getOf appendOf removeOf numbers collectIn collectOf blank afterThree intoTwo after49 afterKey5 afterInvalidate afterCollect afterZeroise version2 withLength table

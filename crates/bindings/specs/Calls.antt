@@ -11,7 +11,7 @@ use Rattle.plans.specs.Answers.{startsAnew}
 use Rattle.store.specs.Read.{getOf}
 use Rattle.store.specs.Call.{Call, get, append, remove, collect, initialise, imageAfter}
 
--- The arguments are what the types of the calls allow: a key of 64 bits, a value of bytes.
+-- R2.1: the arguments are what the types of the calls allow: a key of 64 bits, a value of bytes.
 pub data Typed : Call → Type 0 where
   typed-get : {key : ℕ} {buffer : List ℕ} → Typed (get key buffer)
   typed-append : {key : ℕ} {value : List ℕ} → key < 2 ^ 64 → Bytes value → Typed (append key value)
@@ -19,7 +19,7 @@ pub data Typed : Call → Type 0 where
   typed-collect : Typed collect
   typed-initialise : {key : ℕ} → key < 2 ^ 64 → Typed (initialise key)
 
--- "until its own key is removed or initialise erases the chip": a call that does neither to the key on this image
+-- R11.8: until its own key is removed or initialise erases the chip: a call that does neither to the key on this image
 pub data Spares (s n : ℕ) (key : ℕ) (image : List ℕ) : Call → Type 0 where
   spares-get : {k : ℕ} {buffer : List ℕ} → Spares s n key image (get k buffer)
   spares-append : {k : ℕ} {value : List ℕ} → Spares s n key image (append k value)
@@ -27,17 +27,17 @@ pub data Spares (s n : ℕ) (key : ℕ) (image : List ℕ) : Call → Type 0 whe
   spares-collect : Spares s n key image collect
   spares-initialise : {k : ℕ} → startsAnew (getOf image s n k [] .answer) ≡ false → Spares s n key image (initialise k)
 
--- the image after a list of calls, one after the other
+-- R11.8: after any calls: the image after a list of them, one after the other
 unfoldable pub imageAfterAll : ℕ → ℕ → List Call → List ℕ → List ℕ
 imageAfterAll s n [] image = image
 imageAfterAll s n (c ∷ cs) image = imageAfterAll s n cs (imageAfter c image s n)
 
--- each call of a list is typed, and spares the key on the image that it meets
+-- R11.8: each call of a list is typed, and spares the key on the image that it meets
 pub data SparesAll (s n key : ℕ) : List ℕ → List Call → Type 0 where
   none : {image : List ℕ} → SparesAll s n key image []
   also : {image : List ℕ} {c : Call} {cs : List Call} → Typed c → Spares s n key image c → SparesAll s n key (imageAfter c image s n) cs → SparesAll s n key image (c ∷ cs)
 
--- "no bit goes from 0 to 1": the image keeps its length, and every bit that is set in the new image is set in the old
+-- R11.10: no bit goes from 0 to 1: the image keeps its length, and every bit that is set in the new image is set in the old
 pub record OnlyCleared (image′ image : List ℕ) : Type 0 where
   pub same-length : length image′ ≡ length image
   pub bits : (k : ℕ) → bitAnd (getD image′ k 0) (getD image k 0) ≡ getD image′ k 0

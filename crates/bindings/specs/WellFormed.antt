@@ -1,4 +1,4 @@
--- Well-formed images, and their bindings, as document 01 has them.
+-- Well-formed images, and their bindings.
 use Prim.Native.Nat.{ℕ, _≤_, _<_}
 use mathlib.Core.Path.{_≡_}
 use mathlib.Core.Bool.{true}
@@ -13,47 +13,47 @@ use Rattle.region.specs.declared.Stop.{Stop}
 use Rattle.format.specs.Layout.{largestLength, checkSumFits, live}
 use Rattle.region.specs.Walk.{records, ending, bytesIn, valueIn}
 
--- x is one of the records of region r of the image
+-- R10.1: x is one of the records that the walk of region r of the image meets
 pub record Stored (s n : ℕ) (image : List ℕ) (r : ℕ) (x : Record) : Type 0 where
   pub number : r < n
   pub member : List·Memᴰ x (records (regionOf s image r))
 
--- and live
+-- R10.1: and x is live
 pub record Live (s n : ℕ) (image : List ℕ) (r : ℕ) (x : Record) : Type 0 where
   pub stored : Stored s n image r x
   pub alive : live x ≡ true
 
--- region r is one of the n, and no record of it is live
+-- R11.9: a region that may be erased with every binding left: r is one of the n, and no record of it is live
 pub record Lifeless (s n : ℕ) (image : List ℕ) (r : ℕ) : Type 0 where
   pub number : r < n
   pub none-live : (x : Record) → Live s n image r x → ⊥
 
--- the walk of a region ends at o, and meets no bad place
+-- R10.1: the walk of a region ends at o, and meets no bad place
 abbrev pub EndsAt : List ℕ → ℕ → Type 0
 EndsAt region o = ending region ≡ Stop.End o
 
--- "An image is well-formed if:"
+-- R10.1: an image is well-formed if all of these hold:
 pub record WellFormed (s n : ℕ) (image : List ℕ) : Type 0 where
-  -- it is an image of n regions of s bytes
+  -- R10.1: it is an image of N regions of S bytes (R1.2);
   pub fits : Fits image s n
-  -- made of bytes
+  -- R1.1: it is made of bytes;
   pub bytes : Bytes image
-  -- "no walk meets a bad place;"
+  -- R10.1: no walk of a region meets a bad place;
   pub no-bad : (r : ℕ) → r < n → (o : ℕ) × EndsAt (regionOf s image r) o
-  -- "flags are 8 or 0;"
+  -- R10.1: the flags of every record are 8 or 0;
   pub flags : (r : ℕ) (x : Record) → Stored s n image r x → (x .flags ≡ 8) ⊎ (x .flags ≡ 0)
-  -- "lengths are at most 4,094;"
+  -- R10.1: no record is longer than 4,094;
   pub lengths : (r : ℕ) (x : Record) → Stored s n image r x → x .len ≤ largestLength
-  -- "all bytes after the last record of each region are 255;"
+  -- R10.1: every byte from the place where a region's walk ends is 255;
   pub tails : (r o : ℕ) → r < n → EndsAt (regionOf s image r) o → isBlank (drop o (regionOf s image r)) ≡ true
-  -- "each live record's checksum is right"
+  -- R10.1: every live record's checksum is right,
   pub sums : (r : ℕ) (x : Record) → Live s n image r x → checkSumFits (bytesIn (regionOf s image r) x) ≡ true
-  -- "and its key allowed;"
+  -- R10.1: and its key is one that R2.1 allows;
   pub keys : (r : ℕ) (x : Record) → Live s n image r x → allowedKey (x .key) ≡ true
-  -- "no key has two live records."
+  -- R10.1: no key has two live records.
   pub once : (r q : ℕ) (x y : Record) → Live s n image r x → Live s n image q y → x .key ≡ y .key → (r ≡ q) × (x ≡ y)
 
--- "Its bindings are the key and value of each live record."
+-- R10.2: a key is bound to a value if a live record of the key has that value.
 pub record Bound (s n : ℕ) (image : List ℕ) (key : ℕ) (value : List ℕ) : Type 0 where
   pub region : ℕ
   pub rec : Record

@@ -1,5 +1,5 @@
-// The afternoons of document 01 on the real code: a line for each step, with what the store answers and the bytes that it leaves.
-// S is 64 and N is 4, but for item 11, and the image is blank at first.
+// The worked examples of R15 on the real code: a line for each step, with what the store answers and the bytes that it leaves.
+// S is 64 and N is 4, but for R15.11, and the image is blank at first.
 fn main() {
     probes();
     append_and_get();
@@ -13,13 +13,13 @@ fn main() {
     start_anew();
 }
 
-// Item 1.
+// R15.1
 fn probes() {
     probe_line(b"1 probes of key 1:", 1);
     probe_line(b"1 probes of key 3:", 3);
 }
 
-// Items 2 and 3.
+// R15.2, R15.3
 fn append_and_get() {
     let mut image = [255u8; 256];
     let mut buffer = [0u8; 2];
@@ -32,7 +32,7 @@ fn append_and_get() {
     report::show(b"3 buffer:", &buffer);
 }
 
-// Item 4.
+// R15.4
 fn exact_fit() {
     let mut image = [255u8; 256];
     let mut other = [255u8; 256];
@@ -46,7 +46,7 @@ fn exact_fit() {
     );
 }
 
-// Items 5 and 6.
+// R15.5, R15.6
 fn spill() {
     let mut image = [255u8; 256];
     let mut nothing: [u8; 0] = [];
@@ -65,7 +65,7 @@ fn spill() {
     report::answer(b"6 get 5:", store::get_key(&image, 64, 4, 5, &mut nothing));
 }
 
-// Item 7.
+// R15.7
 fn zeroise() {
     let mut image = [255u8; 256];
     report::answer(
@@ -76,7 +76,7 @@ fn zeroise() {
     report::show(b"7 at 64:", &image[64..128]);
 }
 
-// Item 8.
+// R15.8
 fn bad_version() {
     let mut image = [255u8; 256];
     let mut nothing: [u8; 0] = [];
@@ -85,7 +85,7 @@ fn bad_version() {
     report::answer(b"8 get 3:", store::get_key(&image, 64, 4, 3, &mut nothing));
 }
 
-// Item 9.
+// R15.9
 fn lengths() {
     of_length(b"9 get 1, length 14:", 14);
     of_length(b"9 get 1, length 15:", 15);
@@ -101,13 +101,13 @@ fn of_length(what: &[u8], len: u8) {
     report::answer(what, store::get_key(&image, 64, 4, 1, &mut nothing));
 }
 
-// Item 10.
+// R15.10
 fn collect_blank() {
     let mut image = [255u8; 256];
     report::answer(b"10 collect:", store::garbage_collect(&mut image, 64, 4));
 }
 
-// Item 11. The longest record has 4,094 bytes, 15 more than its value.
+// R15.11: the longest record has 4,094 bytes, 15 more than its value.
 fn largest() {
     let mut image = [255u8; 16384];
     report::answer(
@@ -121,7 +121,7 @@ fn largest() {
     );
 }
 
-// Item 12. The main key is 1; a second key shows that more than its own region is erased.
+// R15.12: the main key is 1; a second key shows that more than its own region is erased.
 fn start_anew() {
     let mut image = [255u8; 256];
     let mut nothing: [u8; 0] = [];

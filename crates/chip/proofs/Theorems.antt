@@ -15,7 +15,7 @@ use Rattle.chip.proofs.Lists.{byte-before, byte-after}
 use Rattle.chip.proofs.Laws.{written-stores, and-blank, and-clear, and-under, under-trans, set-under, blank-at}
 use Rattle.chip.proofs.Image.{erase-within}
 
--- Over 255 a write leaves the new bytes.
+-- R1.4: over 255 a write leaves the new bytes.
 pub over-blank : (image : List ℕ) (at : ℕ) (new : List ℕ) → Bytes new → at + length new ≤ length image
     → isBlank (take (length new) (drop at image)) ≡ true → written image at new ≡ sets image at new
 over-blank image at new b h e =
@@ -25,12 +25,12 @@ over-blank image at new b h e =
     let o : getD image (at + k) 0 ≡ 255 = sym (getD-take (length new) (drop at image) k 0 l ∙ getD-drop at image k 0) ∙ blank-at _ e k (omega arith) in
     ap (λ (x : ℕ). bitAnd x (getD new k 0)) o ∙ and-blank (getD new k 0) (b k))
 
--- Clearing a byte's top bit by AND is the same as storing it so.
+-- R1.4: clearing a byte's top bit by AND is the same as storing it so.
 pub clears-flag : (image : List ℕ) (at : ℕ) → written image at (getD image at 0 % 128 ∷ []) ≡ sets image at (getD image at 0 % 128 ∷ [])
 unfolding written
 clears-flag image at = rw (and-clear (getD image at 0))
 
--- Outside an erase no bit goes from 0 to 1: at every place the bits after a write are among those before it.
+-- R1.4: a write clears bits and sets none: at every place the bits after it are among those before it.
 pub write-clears : (image : List ℕ) (at : ℕ) (new : List ℕ) (k : ℕ) → bitAnd (getD (written image at new) k 0) (getD image k 0) ≡ getD (written image at new) k 0
 unfolding written
 write-clears image at [] k = and-self (getD image k 0)
@@ -38,7 +38,7 @@ write-clears image at (b ∷ new) k =
     let old = getD image at 0 in
     under-trans _ _ _ (write-clears (set image at (bitAnd old b)) (suc at) new k) (set-under image at (bitAnd old b) (and-under old b) k)
 
--- An erase alters its region alone: every byte before or behind it is as it was.
+-- R1.3: an erase alters no other byte: every byte before or behind its region is as it was.
 pub erase-only : (s r : ℕ) (image : List ℕ) (k : ℕ) → (k < r * s) ⊎ (r * s + s ≤ k) → getD (eraseRegion s r image) k 0 ≡ getD image k 0
 erase-only s r image k =
     let w = erase-within s r image in

@@ -44,7 +44,7 @@ impl Record {
     }
 }
 
-// Why a place is bad: steps 3 and 4 of a walk.
+// Why a place is bad (R4.4, R4.5).
 pub enum Fault {
     UnsupportedVersion,
     CorruptData,

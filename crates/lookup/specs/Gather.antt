@@ -9,24 +9,25 @@ use Rattle.lookup.specs.declared.Need.{Need}
 use Rattle.lookup.specs.declared.Room.{Room}
 use Rattle.lookup.specs.declared.Seen.{Seen}
 
--- before the first region
+-- R5.4: what append's lookup gathers on its way, before the first region
 abbrev pub unseen : Seen
 unseen = record { room = Room.Nowhere }
 
--- what is gathered, with another room
+-- R5.4: what is gathered, with another room
 abbrev pub withRoom : Room → Seen → Seen
 withRoom room seen = record { room = room }
 
--- the first of the two that is one
+-- R5.4: the first region that has room: the first of the two that is one
 abbrev pub orRoom : Room → Room → Room
 orRoom Room.Nowhere later = later
 orRoom (Room.At r o b) later = Room.At r o b
 
--- "with room, meaning o + length is at most S": for a record of so many bytes in region r, whose records end at o; and whether its place is blank
+-- R5.4: a region has room where the walk ended at o, and o plus the record's length is at most S: for a record of so many bytes in region r.
+-- And whether every byte of the record's place there is 255.
 abbrev pub roomAt : ℕ → ℕ → ℕ → List ℕ → Room
 roomAt len r o region = cond (leb (o + len) (length region)) (Room.At r o (isBlank (take len (drop o region)))) Room.Nowhere
 
--- "the first region in probe order with room": from region r, whose records end at o and which did not decide
+-- R5.4: the first region in probe order that has room: what is gathered after region r, whose walk ended at o and which did not decide
 abbrev pub noted : Seen → Need → ℕ → List ℕ → ℕ → Seen
 noted seen Need.Nothing r region o = seen
 noted seen (Need.Room len) r region o = withRoom (orRoom (seen .room) (roomAt len r o region)) seen

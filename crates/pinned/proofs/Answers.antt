@@ -1,5 +1,5 @@
--- Each line of the table refuses with its number and leaves what it should (`refused-when`), and a call that no line of it touches is not refused
--- (`reason`). The table's two directions, and what a refusal leaves, are made of these.
+-- Each line of `When`, R6.1 to R6.10, refuses with its number and leaves what it should (`refused-when`), and a call that no line of it touches is
+-- not refused (`reason`). The two directions of `exactly-when`, and what a refusal leaves, are made of these.
 -- Assumes nothing.
 use Prim.Native.Nat.{ℕ, zero, suc, _*_, _≤_}
 use native.Mathlib.Omega.{arith}

@@ -1,4 +1,4 @@
--- The lines of the table: which numbers they have, which of them come before reading, and which no initialise and no get is on.
+-- The lines of `When`, R6.1 to R6.10: which numbers they have, which of them come before reading, and which no initialise and no get is on.
 -- Assumes nothing.
 use Prim.Native.Nat.{ℕ, _≤_}
 use native.Mathlib.Omega.{arith}
@@ -9,7 +9,7 @@ use Rattle.lookup.specs.declared.Need.{Need}
 use Rattle.store.specs.Call.{Call, get, initialise}
 use Rattle.pinned.specs.When.{Reads, Looks, get-looks, remove-looks, append-looks, MeetsBad, in-lookup, in-collect, When}
 
--- The lines of the table: 1 to 3 come before reading, 4 to 10 after it.
+-- R7.2: the lines of `When`: 1 to 3 come before reading, 4 to 10 after it.
 data Line (image : List ℕ) (s n k : ℕ) (c : Call) : Type 0 where
   first : 1 ≤ k → k ≤ 3 → Line image s n k c
   later : 4 ≤ k → k ≤ 10 → Reads image s n c → Line image s n k c
@@ -41,7 +41,7 @@ line-reads w = go (line w)
     go (first l h) m = absurd (omega arith)
     go (later l h reads) m = reads
 
--- Initialise has lines 1 and 2 alone: it stores no value, answers by no lookup of its own, and is no collect.
+-- R5.9: initialise has lines 1 and 2 alone: it stores no value, answers by no lookup of its own, and is no collect.
 no-looks : {c : Call} {key k : ℕ} {need : Need} → Looks c k need → c ≡ initialise key → ⊥
 no-looks get-looks e = let z : _≡_ {A = ℕ} 0 1 = cc in omega arith
 no-looks remove-looks e = let z : _≡_ {A = ℕ} 0 1 = cc in omega arith

@@ -1,5 +1,5 @@
--- A lookup's ends and the first room, in the words of document 01: one induction over the lookup's turns gives the case, one over the regions passed
--- gives the way back.
+-- A lookup's ends and the first room, in the words of specs/Words.antt: one induction over the lookup's turns gives the case, one over the regions
+-- passed gives the way back.
 -- Assumes nothing.
 use Prim.Native.Nat.{ℕ, _+_, _*_, _<_}
 use native.Mathlib.Omega.{arith}

@@ -1,4 +1,4 @@
--- What every call of the store answers and leaves, sentence by sentence of document 01. The arguments are in the other files.
+-- What every call of the store answers and leaves, rule by rule. The arguments are in the other files.
 -- Assumes nothing.
 use Prim.Native.Nat.{ℕ, _+_, _*_, _≤_, _<_}
 use native.Mathlib.Omega.{arith}
@@ -49,84 +49,84 @@ use Rattle.pinned.proofs.Buffers.{refused-buffer}
 use Rattle.pinned.proofs.Written.{append-wrote, remove-wrote}
 use Rattle.pinned.proofs.Collected.{erased-are, collected-at, stands-from, freed-all, erased-once}
 
--- "Exactly when".
+-- When a refusal comes.
 
--- A call on any image gives refusal k where the table says so, and only there.
+-- R6.1 to R6.10: a call on any image gives refusal k exactly when its rule says so (`When`), and only then.
 pub exactly-when : (k : ℕ) (c : Call) (image : List ℕ) (s n : ℕ) → 1 ≤ k → (refusal (answerOf c image s n) ≡ k) ↔ When image s n k c
 exactly-when k c image s n l = (λ e. ⊎-elim (λ z. absurd (omega arith)) (subst (λ (j : ℕ). When image s n j c) e) (reason-number image s n c), answered image s n)
 
--- Where no line of the table says so, the call gives the one answer that is its own: "Complete with the length", "Written", "S times the regions erased".
+-- R7.1: where no rule refuses it, the call gives the one answer that is its own: Complete with a length, Written, Freed with a number of bytes.
 pub succeeds-else : (c : Call) (image : List ℕ) (s n : ℕ) → ((k : ℕ) → When image s n k c → ⊥) → Succeeds c (answerOf c image s n)
 succeeds-else c image s n h = ⊎-elim (succeeds image s n c) (λ w. absurd (h _ w)) (reason-number image s n c)
 
--- 11 and 12 are the stepped form's: no call in one gives them.
+-- R6.11, R6.12: these are the stepped form's: no call in one gives them.
 pub at-most-ten : (c : Call) (image : List ℕ) (s n : ℕ) → refusal (answerOf c image s n) ≤ 10
 at-most-ten c image s n = ⊎-elim (λ z. omega arith) (λ w. line-some w .1) (reason-number image s n c)
 
--- Initialise refuses by 1 and 2 alone.
+-- R5.9: initialise refuses by 1 and 2 alone.
 pub initialise-refuses : (key : ℕ) (image : List ℕ) (s n : ℕ) → refusal (answerOf (initialise key) image s n) ≤ 2
 initialise-refuses key image s n = ⊎-elim (λ z. omega arith) initialise-line (reason-number image s n (initialise key))
 
--- Get never refuses by 3, 5 or 6: "Refusals 4, 7, 8, 9 and 10" of initialise are all that its get can give behind 1 and 2.
+-- R5.9: get never refuses by 3, 5 or 6: the refusals 4, 7, 8, 9 and 10 are all that initialise's get can give behind 1 and 2.
 pub get-refuses : (key : ℕ) (buffer image : List ℕ) (s n : ℕ)
     → (refusal (answerOf (get key buffer) image s n) ≡ 3 → ⊥) × (refusal (answerOf (get key buffer) image s n) ≡ 5 → ⊥) × (refusal (answerOf (get key buffer) image s n) ≡ 6 → ⊥)
 get-refuses key buffer image s n = ⊎-elim (λ z. (λ e. omega arith, λ e. omega arith, λ e. omega arith)) get-line (reason-number image s n (get key buffer))
 
--- The ends of a lookup that the table names, in the document's words.
+-- The ends of a lookup that these rules name.
 
--- 4: "no region decides".
+-- R6.4: no region decides.
 pub no-region-decides : (key : ℕ) (need : Need) (image : List ℕ) (s n : ℕ) → 0 < n
     → ((seen : Seen) × (lookupIn key need s image (probes key n) ≡ Looked.Through seen)) ↔ ((r : ℕ) → r < n → Passed image s key r)
 no-region-decides key need image s n p =
     let t = through-is image s key need (probes key n) in
     (λ h r l. t .0 h r (members key n r p .0 l), λ k. t .1 (λ r m. k r (members key n r p .1 m)))
 
--- None decides where the walk for the key comes to the end of each: there is no live record of the key in it, and no bad place.
+-- R5.1: none decides where the walk for the key comes to the end of each: there is no live record of the key in it, and no bad place.
 pub passed-is : (key : ℕ) (image : List ℕ) (s q : ℕ) → Passed image s key q ↔ ((o : ℕ) × (eventIn (regionOf s image q) (Want.Key key) ≡ Event.End o))
 passed-is key image s q = (passed-end image s key q, λ h. let (o, e) = h in end-passed image s key q e)
 
--- "Regions in probe order; the first live record of the key [..] answers", and 5: "append meets its key live".
+-- R5.1, R6.5: the lookup is decided by a live record of the key, in a region of the probe order before which none decides.
 pub meets-live : (key : ℕ) (need : Need) (image : List ℕ) (s n r : ℕ) (x : Record)
     → (lookupIn key need s image (probes key n) ≡ Looked.Live r x) ↔ Decides image s key (probes key n) r (Event.Live x)
 meets-live key need image s n r x = live-is image s key need (probes key n) r x
 
--- "the first [..] bad place answers": at this place of the image, in a region before which none decides.
+-- R5.1: it is decided by a bad place: at this place of the image, in a region before which none decides.
 pub meets-bad : (key : ℕ) (need : Need) (image : List ℕ) (s n : ℕ) (f : Fault) (place : ℕ)
     → (lookupIn key need s image (probes key n) ≡ Looked.Bad f place)
     ↔ ((r : ℕ) × (o : ℕ) × (r * length (regionOf s image r) + o ≡ place) × Decides image s key (probes key n) r (Event.Bad f o))
 meets-bad key need image s n f place = bad-is image s key need (probes key n) f place
 
--- Where the image fits, that region has S bytes: the place is r * S + o.
+-- R1.1: where the image fits, that region has S bytes: the place is r * S + o.
 pub deciding-region : {image : List ℕ} {s n key r : ℕ} {event : Event} → Fits image s n → Decides image s key (probes key n) r event → length (regionOf s image r) ≡ s
 deciding-region {n = n} {key = key} {r = r} f d =
     let m : List·Memᴰ r (probes key n) = rw (d .split) (Memᴰ·append-right (d .before) (List·Memᴰ·head refl)) in
     region-length f (members key n r (f .shape .n-least) .1 m)
 
--- 6: "no region has room".
+-- R6.6: no region has room.
 pub no-room : (key len : ℕ) (image : List ℕ) (s n : ℕ) → 0 < n
     → (firstRoom len s image (probes key n) ≡ Room.Nowhere) ↔ ((r o : ℕ) → r < n → HasRoom image s len r o → ⊥)
 no-room key len image s n p =
     let t = room-nowhere image s len (probes key n) in
     (λ h r o l. t .0 h r o (members key n r p .0 l), λ k. t .1 (λ r o m. k r o (members key n r p .1 m)))
 
--- "the first region in probe order with room, meaning o + length is at most S", and whether the record's place there is blank.
+-- R5.4: the first region in probe order that has room for so many bytes from o on, and whether the record's place there is blank.
 pub first-room : (key len : ℕ) (image : List ℕ) (s n r o : ℕ) (blank : Bool)
     → (firstRoom len s image (probes key n) ≡ Room.At r o blank)
     ↔ (FirstRoom image s len (probes key n) r o × (blank ≡ isBlank (take len (drop o (regionOf s image r)))))
 first-room key len image s n r o blank = room-at image s len (probes key n) r o blank
 
--- That room is the one that append writes to, where no region decided.
+-- R5.4: that room is the one that append writes to, where no region decided.
 pub append-takes-first : (key len : ℕ) (image : List ℕ) (s n : ℕ) {seen : Seen} → lookupIn key (Need.Room len) s image (probes key n) ≡ Looked.Through seen
     → appendPlan (Looked.Through seen) ≡ placePlan (firstRoom len s image (probes key n))
 append-takes-first key len image s n h = ap placePlan (gathered-first key len s image (probes key n) h)
 
 -- What a refusal leaves.
 
--- "A refusal alters no byte of image [..], but for [..] what collect and initialise did before". Initialise's own refusals come first.
+-- R7.3: a refused call alters no byte of the image, but for the regions that collect erased before. Initialise's own refusals come first.
 pub refused-leaves : (c : Call) (image : List ℕ) (s n : ℕ) → 1 ≤ refusal (answerOf c image s n) → imageAfter c image s n ≡ leftBy c image s n
 refused-leaves c image s n l = ap (λ (d : Done). d .image) (refused-when image s n (exactly-when _ c image s n l .0 refl) .done)
 
--- "A bad place ends the call with its refusal; regions before it are already collected, it and later ones stand."
+-- R5.8: a bad place that decides ends collect with its refusal. The regions before it are collected already; it and those after it stand.
 pub collect-refused : {f : Fault} (image : List ℕ) (s n : ℕ) → Fits image s n → (b : FirstBad image s n f)
     → (answerOf collect image s n ≡ Refused (refusalOf f))
     × ((q : ℕ) → q < b .region → Collected s (regionOf s image q) (regionOf s (imageAfter collect image s n) q))
@@ -137,17 +137,18 @@ collect-refused {f} image s n fits b = (
   stands-from image s n fits b,
 )
 
--- "A refusal alters no byte of [..] buffer, but for what get copies under 9 and 10".
+-- R7.3: a refused call alters no byte of get's buffer, but for what it copies under 9 and 10.
 pub refused-keeps-buffer : (key : ℕ) (buffer image : List ℕ) (s n : ℕ) → 1 ≤ refusal (answerOf (get key buffer) image s n) → refusal (answerOf (get key buffer) image s n) < 9
     → getOf image s n key buffer .buffer ≡ buffer
 refused-keeps-buffer key buffer image s n l h = refused-buffer image s n key buffer l h
 
 -- Get.
 
+-- R11.6: get alters nothing, on any image.
 pub get-alters-nothing : (key : ℕ) (buffer image : List ℕ) (s n : ℕ) → imageAfter (get key buffer) image s n ≡ image
 get-alters-nothing key buffer image s n = refl
 
--- Get that is not refused has a live record of the key, whose value the buffer takes and whose checksum is right: `get-complete` says the rest.
+-- R5.2: get that is not refused has a live record of the key, whose value the buffer takes and whose checksum is right. See `get-complete`.
 pub get-answers : (key : ℕ) (buffer image : List ℕ) (s n : ℕ) → refusal (answerOf (get key buffer) image s n) ≡ 0
     → Reads image s n (get key buffer)
     × ((r : ℕ)
@@ -157,39 +158,38 @@ pub get-answers : (key : ℕ) (buffer image : List ℕ) (s n : ℕ) → refusal 
     × (checkSumFits (bytesIn (regionOf s image r) x) ≡ true))
 get-answers key buffer image s n h = get-fine image s n key buffer h
 
--- Get of a live record x of region r, of which the value's bytes are `valueIn`. "Value length is record length less 15."
+-- R5.2: get of a live record x of region r, of which the value's bytes are `valueIn`: its length less 15 of them (R4.7).
 module _ (key : ℕ) (buffer image : List ℕ) (s n r : ℕ) (x : Record) (reads : Reads image s n (get key buffer)) (live : lookupIn key Need.Nothing s image (probes key n) ≡ Looked.Live r x) where
-  -- "A buffer that is too short is filled with the value's first bytes and BufferTooSmall gives the full value length, checksum not looked at."
+  -- R5.2: a shorter buffer is filled with the value's first bytes: BufferTooSmall with the value's length, the checksum not looked at.
   pub get-short : length buffer < valueLength x
       → getOf image s n key buffer ≡ record { answer = Refused (Refusal.BufferTooSmall (valueLength x)); buffer = take (length buffer) (valueIn (regionOf s image r) x) }
   get-short l = got-live image s n buffer reads live ∙ rw (lt-ltb (length buffer) (valueLength x) l)
 
-  -- "Else the value is copied to the buffer's front, bytes after it stay, and then the checksum is compared: Complete with the length,
+  -- R5.2: else the value is copied to the front, the bytes after it stay as they were, and the checksum is compared: Complete if it is right,
   pub get-complete : valueLength x ≤ length buffer → checkSumFits (bytesIn (regionOf s image r) x) ≡ true
       → getOf image s n key buffer ≡ record { answer = Complete (valueLength x); buffer = valueIn (regionOf s image r) x ++ drop (valueLength x) buffer }
   get-complete l e = got-live image s n buffer reads live ∙ rw (le-ltb (length buffer) (valueLength x) l, e)
 
-  -- or InvalidCheckSum with the copy left there."
+  -- R5.2: else InvalidCheckSum, with the copy left in the buffer.
   pub get-wrong-sum : valueLength x ≤ length buffer → checkSumFits (bytesIn (regionOf s image r) x) ≡ false
       → getOf image s n key buffer ≡ record { answer = Refused Refusal.InvalidCheckSum; buffer = valueIn (regionOf s image r) x ++ drop (valueLength x) buffer }
   get-wrong-sum l e = got-live image s n buffer reads live ∙ rw (le-ltb (length buffer) (valueLength x) l, e)
 
 -- Written.
 
--- Append: Written is answered where the record was written, on a blank place, and nowhere else. A value's bytes are below 256.
+-- R5.4: Written is answered where the record was written, on a blank place, and nowhere else. A value's bytes are below 256.
 pub append-written : (key : ℕ) (value image : List ℕ) (s n : ℕ) → Bytes value → answerOf (append key value) image s n ≡ Written
     → Appended image s n key value (imageAfter (append key value) image s n)
 append-written key value image s n v h = append-wrote image s n key value v h
 
--- "Invalidate. Found as in get; one write of byte 1 with the top bit cleared. Written." "Zeroise. Found as in get; one write over the whole record: header
--- with the top flag cleared, value and checksum 0. Written."
+-- R5.5, R5.6: Written is answered where the record that decides was invalidated or zeroised by its one write, and nowhere else.
 pub remove-written : (how : Removal) (key : ℕ) (image : List ℕ) (s n : ℕ) → Bytes image → answerOf (remove how key) image s n ≡ Written
     → Removed how image s n key (imageAfter (remove how key) image s n)
 remove-written how key image s n v h = remove-wrote how image s n key v h
 
 -- Collect.
 
--- "A region with at least one record, none live and no bad place is erased": which regions are, each once.
+-- R5.7: a region with at least one record, no live one and no bad place is erased: which regions are, each once.
 pub collect-erases : (image : List ℕ) (s n q : ℕ) → Fits image s n
     → List·Memᴰ q (erasedBy image s n) ↔ ((q < n) × Dead (regionOf s image q) × ((p : ℕ) → p < q → NotBad (regionOf s image p)))
 collect-erases image s n q f = erased-are image s n f q
@@ -197,7 +197,7 @@ collect-erases image s n q f = erased-are image s n f q
 pub erases-once : (image : List ℕ) (s n : ℕ) → Distinct (erasedBy image s n)
 erases-once image s n = erased-once image s n
 
--- "The answer is S times the regions erased": these are the regions that were dead, they are blank now, and the others are as they were.
+-- R5.7: Freed with S times the number of regions erased: these were dead, they are blank now, and the others are as they were.
 pub freed-is-counted : (image : List ℕ) (s n bytes : ℕ) → answerOf collect image s n ≡ Freed bytes
     → (bytes ≡ s * length (erasedBy image s n))
     × ((q : ℕ) → List·Memᴰ q (erasedBy image s n) ↔ ((q < n) × Dead (regionOf s image q)))
@@ -213,21 +213,21 @@ freed-is-counted image s n bytes h =
       λ q l. collected-at image s n fits q l (λ p m. none p (omega arith)),
     )
 
--- Initialise: "Get of the main key into an empty buffer."
+-- Initialise, by the answer of a get of the main key into an empty buffer.
 
--- "Complete: nothing changes."
+-- R5.9: if that is Complete, so is initialise, and nothing changes.
 pub initialise-complete : (key : ℕ) (image : List ℕ) (s n len : ℕ) → answerOf (get key []) image s n ≡ Complete len
     → outcome (initialise key) image s n ≡ record { answer = Complete len; image = image }
 initialise-complete key image s n len h = initialise-left image s n key (ap refusal h) ∙ ap (λ (a : Answer). record { answer = a; image = image }) h
 
--- "Refusals 4, 7, 8, 9 and 10 erase every region and append the main key with an empty value; Written."
+-- R5.9: if it is refused by 4, 7, 8, 9 or 10, every region is erased and the main key is appended with an empty value: Written.
 pub initialise-written : (key : ℕ) (image : List ℕ) (s n : ℕ) → 4 ≤ refusal (answerOf (get key []) image s n)
     → outcome (initialise key) image s n ≡ record { answer = Written; image = written (erased (n * s)) (home key n * s) (recordBytes key []) }
 initialise-written key image s n h =
     let reads = line-reads (exactly-when _ (get key []) image s n (omega arith) .0 refl) h in
     initialise-anew image s n key (record { fits = reads .fits; key-good = reads .key-good; not-large = omega arith }) (omega arith)
 
--- "Show that any pair of results allowed for one input is identical": answer and image at exit, or get's answer and buffer.
+-- R7.5: for one input there is one answer, and one image or one content of get's buffer afterwards: any two results allowed are identical.
 
 -- What a contract allows, that says of each of two results what it is.
 abbrev Allows : {A B : Type 0} → A → B → A → B → Type 0

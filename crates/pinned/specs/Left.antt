@@ -23,38 +23,39 @@ use Rattle.store.specs.Call.{Call, get, append, remove, collect, initialise}
 
 -- What collect erases.
 
--- "A region with at least one record, none live and no bad place".
+-- R5.7: a region with at least one record, no live one and no bad place, which is erased.
 pub record Dead (region : List ℕ) : Type 0 where
   pub some : records region ≡ [] → ⊥
   pub none-live : (x : Record) → List·Memᴰ x (records region) → live x ≡ false
   pub place : ℕ
   pub no-bad : ending region ≡ Stop.End place
 
--- region r, before those that are erased after it
+-- R5.7, R5.8: region r, if it is erased, before those that are erased after it. Behind a bad place none is.
 abbrev pub erasedOn : Verdict → ℕ → List ℕ → List ℕ
 erasedOn Verdict.Stands r rest = rest
 erasedOn Verdict.Erase r rest = r ∷ rest
 erasedOn (Verdict.Bad f p) r rest = []
 
--- The regions of a list that collect erases, in its order, by the image as it is at first: those that are dead, up to the first bad place.
+-- R5.7, R5.8: the regions of a list that collect erases, in its order, by the image as it is at first: the dead ones before the first bad place.
 unfoldable pub erasedIn : ℕ → List ℕ → List ℕ → List ℕ
 erasedIn s image [] = []
 erasedIn s image (r ∷ rs) = erasedOn (verdict r (regionOf s image r)) r (erasedIn s image rs)
 
+-- R5.7: the regions that collect erases, of 0 to N - 1 in number order. With a bad geometry it erases none.
 abbrev pub erasedBy : List ℕ → ℕ → ℕ → List ℕ
 erasedBy image s n = cond (geometry image s n) (erasedIn s image (numbers 0 n)) []
 
--- the image with the regions of a list erased
+-- R1.3: the image with the regions of a list erased
 unfoldable pub eraseAll : ℕ → List ℕ → List ℕ → List ℕ
 eraseAll s [] image = image
 eraseAll s (r ∷ rs) image = eraseAll s rs (eraseRegion s r image)
 
--- A region that collect came by, and what it then is: erased where it was dead, and else as it was.
+-- R5.7: a region that collect came by, and what it then is: erased where it was dead, and else it stands.
 pub data Collected (s : ℕ) (region region′ : List ℕ) : Type 0 where
   erased-one : Dead region → region′ ≡ erased s → Collected s region region′
   stood : (Dead region → ⊥) → region′ ≡ region → Collected s region region′
 
--- What a refusal leaves of the image: all of it, but for what collect erased before it.
+-- R7.3, R5.8: what a refused call leaves of the image: all of it, but for the regions that collect erased before.
 abbrev pub leftBy : Call → List ℕ → ℕ → ℕ → List ℕ
 leftBy (get key buffer) image s n = image
 leftBy (append key value) image s n = image
@@ -64,7 +65,7 @@ leftBy (initialise key) image s n = image
 
 -- What a call that answers Written did.
 
--- Append: "the first region in probe order with room [..] takes the record at o". One write, over a blank place, which then holds the record;
+-- R5.4: the record goes to the first region in probe order that has room. One write, over a blank place, which then holds the record;
 -- the other regions stand, and the image is not what it was.
 pub record Appended (image : List ℕ) (s n key : ℕ) (value image′ : List ℕ) : Type 0 where
   pub region : ℕ
@@ -76,8 +77,8 @@ pub record Appended (image : List ℕ) (s n key : ℕ) (value image′ : List �
   pub others : (q : ℕ) → (q ≡ region → ⊥) → regionOf s image′ q ≡ regionOf s image q
   pub changed : image′ ≡ image → ⊥
 
--- Invalidate and zeroise: "Found as in get". One write, which makes the record dead and leaves the others of its region; the other regions
--- stand, and the image is not what it was.
+-- R5.5, R5.6: the record that decides is made dead by its one write. The others of its region are left; the other regions stand,
+-- and the image is not what it was.
 pub record Removed (how : Removal) (image : List ℕ) (s n key : ℕ) (image′ : List ℕ) : Type 0 where
   pub region : ℕ
   pub rec : Record

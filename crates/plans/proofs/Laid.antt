@@ -18,7 +18,7 @@ use Rattle.plans.specs.Writes.{startOf, bytesOf, sizeOf, laidIn}
 use Rattle.plans.specs.Fits.{editFits}
 use Rattle.plans.proofs.Facts.{in-chip, edit-facts}
 
--- "Invalidate: one write of byte 1"; "Zeroise: one write over the whole record".
+-- R3.7: invalidating is one write of byte 1, zeroising one write over the whole record.
 length-kill : (how : Removal) (x : Record) → 15 ≤ x .len → length (killBytes how x) ≡ killLength how x
 length-kill Removal.Invalidate x h = refl
 length-kill Removal.Zeroise x h =

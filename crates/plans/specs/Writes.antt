@@ -21,19 +21,19 @@ use Rattle.plans.specs.declared.Plan.{Plan}
 
 -- What is lent.
 
--- the length of the value: what is lent none appends an empty one
+-- R8.2, R5.9: the length of append's value. Where none is lent initialise appends an empty one.
 abbrev pub valueLent : Lent → ℕ
 valueLent Lent.Nothing = 0
 valueLent (Lent.Value len) = len
 valueLent (Lent.Buffer len) = 0
 
--- the value itself
+-- R8.3, R5.9: the value itself. Where none is lent it is not looked at, and initialise appends an empty one.
 abbrev pub valueOf : Lent → List ℕ → List ℕ
 valueOf Lent.Nothing value = []
 valueOf (Lent.Value len) value = value
 valueOf (Lent.Buffer len) value = []
 
--- the length of the buffer: what is lent none reads into an empty one
+-- R8.2, R5.9: the length of get's buffer. Where none is lent initialise gets into an empty one.
 abbrev pub bufferLent : Lent → ℕ
 bufferLent Lent.Nothing = 0
 bufferLent (Lent.Value len) = 0
@@ -41,44 +41,47 @@ bufferLent (Lent.Buffer len) = len
 
 -- An edit.
 
+-- R8.4: the region that is written or erased
 abbrev pub inRegion : Edit → ℕ
 inRegion (Edit.Lay r o) = r
 inRegion (Edit.Kill how r x) = r
 inRegion (Edit.Erase r) = r
 
--- where in its region its bytes begin
+-- R8.4: where in its region its bytes begin
 abbrev pub startOf : Edit → ℕ
 startOf (Edit.Lay r o) = o
 startOf (Edit.Kill how r x) = killPlace how x
 startOf (Edit.Erase r) = 0
 
--- its bytes, of the call (key and value) and the record, and never of what the region holds; an erase has none
+-- R3.1, R3.7: its bytes, of the call (key and value) or of the record alone, and never of what the region holds; an erase has none
 abbrev pub bytesOf : ℕ → List ℕ → Edit → List ℕ
 bytesOf key value (Edit.Lay r o) = recordBytes key value
 bytesOf key value (Edit.Kill how r x) = killBytes how x
 bytesOf key value (Edit.Erase r) = []
 
--- how many they are, for a value of so many bytes
+-- R3.2, R3.7: how many they are, for a value of so many bytes
 abbrev pub sizeOf : ℕ → Edit → ℕ
 sizeOf len (Edit.Lay r o) = recordLength len
 sizeOf len (Edit.Kill how r x) = killLength how x
 sizeOf len (Edit.Erase r) = 0
 
--- What it makes of an image: one AND-write, or one erase.
+-- R1.4: what a write makes of an image: its bytes go, by AND, to the image place that is its region's first plus where they begin.
 abbrev pub wrote : ℕ → ℕ → List ℕ → Edit → List ℕ → List ℕ
 wrote s key value e image = written image (inRegion e * s + startOf e) (bytesOf key value e)
 
+-- R1.3, R1.4: what an edit makes of an image: one write, or one erase.
 abbrev pub edited : ℕ → ℕ → List ℕ → Edit → List ℕ → List ℕ
 edited s key value (Edit.Lay r o) image = wrote s key value (Edit.Lay r o) image
 edited s key value (Edit.Kill how r x) image = wrote s key value (Edit.Kill how r x) image
 edited s key value (Edit.Erase r) image = eraseRegion s r image
 
--- "Bytes to write lie in the buffer at their own place in the region; the rest stays as last read."
+-- R8.6: the bytes to write lie in the region buffer at their own place in the region, and the rest stays as it was.
 abbrev pub laidIn : ℕ → List ℕ → Edit → List ℕ → List ℕ
 laidIn key value e region = sets region (startOf e) (bytesOf key value e)
 
 -- A list of edits.
 
+-- R8.10: what an operation has still to write or erase, one after the other.
 abbrev pub listed : Edits → List Edit
 listed Edits.Nil = []
 listed (Edits.One e) = e ∷ []
@@ -86,12 +89,12 @@ listed (Edits.Two e f) = e ∷ f ∷ []
 listed (Edits.Three e f g) = e ∷ f ∷ g ∷ []
 listed (Edits.Erases i m) = map Edit.Erase (numbers i (m - i))
 
--- one after the other
+-- R9.7: the image with these done, one after the other
 unfoldable pub applied : ℕ → ℕ → List ℕ → List Edit → List ℕ → List ℕ
 applied s key value [] image = image
 applied s key value (e ∷ es) image = applied s key value es (edited s key value e image)
 
--- the first that is left to do, and the others
+-- R9.7: the first that is left to do
 abbrev pub first : Edits → First
 first Edits.Nil = First.Nothing
 first (Edits.One e) = First.Do e
@@ -99,6 +102,7 @@ first (Edits.Two e f) = First.Do e
 first (Edits.Three e f g) = First.Do e
 first (Edits.Erases i m) = cond (ltb i m) (First.Do (Edit.Erase i)) First.Nothing
 
+-- R9.7: the others, once the first is done
 abbrev pub rest : Edits → Edits
 rest Edits.Nil = Edits.Nil
 rest (Edits.One e) = Edits.Nil
@@ -108,18 +112,18 @@ rest (Edits.Erases i m) = cond (ltb i m) (Edits.Erases (i + 1) m) Edits.Nil
 
 -- A plan with nothing to write.
 
--- what follows comes at once
+-- R8.10: nothing is left to write or erase, and what comes behind it comes at once
 abbrev pub follows : Then → Plan
 follows next = record { edits = Edits.Nil; next = next }
 
--- an answer
+-- R7.1: an answer, with nothing written
 abbrev pub ends : Answer → Plan
 ends answer = follows (Then.Ends answer)
 
--- a refusal
+-- R7.3: a refusal, with nothing written
 abbrev pub refuses : Refusal → Plan
 refuses w = ends (Answer.Refused w)
 
--- a lookup begins
+-- R5.1: a lookup begins, at the first region of the probe order
 abbrev pub look : Aim → Then
 look aim = Then.Seek aim 0 unseen

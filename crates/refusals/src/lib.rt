@@ -33,7 +33,7 @@ impl Refusal {
         }
     }
 
-    // Its number in the table "When the store says no".
+    // Its number: that of R6.k is k.
     pub fn number(self) -> u32
         ensures { λ r. ⌜ r ≡ number self ⌝ }
     {

@@ -37,7 +37,7 @@ use Rattle.region.proofs.Change.{walk-blank, walk-laid, kept-laid, walk
 use Rattle.format.proofs.Killed.{kill-length}
 use Rattle.region.proofs.Kill.{bytes-are, kill-stores, kill-buries}
 
--- A live record decides a search where it is the first that is wanted, and only there.
+-- R4.8: a live record decides a search where it is the first that is sought, and only there.
 pub live-decides : (r : List ℕ) (want : Want) (x : Record) → eventIn r want ≡ Event.Live x → First (isWanted want) (records r) x
 live-decides r want x h = first-live (isWanted want) (records r) (ending r) x h
 
@@ -45,25 +45,25 @@ pub first-decides : (r : List ℕ) (want : Want) (a : List Record) (x : Record) 
     → None (isWanted want) a → isWanted want x ≡ true → eventIn r want ≡ Event.Live x
 first-decides r want a x b e n p = rw e (is-first (isWanted want) a x b (ending r) n p)
 
--- A bad place or the end decides it where no record is wanted, and only there.
+-- R4.8: a bad place or the end decides it where none of its records is sought, and only there.
 pub stop-decides : (r : List ℕ) (want : Want) (s : Stop) → eventIn r want ≡ eventOf s → None (isWanted want) (records r) × (ending r ≡ s)
 stop-decides r want s h = Search.stop-decides (isWanted want) (records r) (ending r) s h
 
 pub none-decides : (r : List ℕ) (want : Want) → None (isWanted want) (records r) → eventIn r want ≡ eventOf (ending r)
 none-decides r want n = none-passes (isWanted want) (records r) (ending r) n
 
--- A blank region has no records.
+-- R4.3: the walk of a blank region ends at place 0: it has no records.
 pub blank-region : (size : ℕ) → walkFrom (erased size) 0 ≡ record { recs = []; stop = End 0 }
 blank-region size = walk-blank (erased size) 0 (blank-erased size)
 
 found-there : (r : List ℕ) (a : List Record) (x : Record) (b : List Record) → records r ≡ a ++ x ∷ b → Found (length r - x .at) (recordAt r (x .at)) x
 found-there r a x b e = found (length r - x .at) (recordAt r (x .at)) x (split-records r a x b e .stands)
 
--- Records lie within the region, and are 15 bytes or longer.
+-- R4.5, R4.6: records lie within the region, and are 15 bytes or longer.
 pub records-within : (r : List ℕ) (a : List Record) (x : Record) (b : List Record) → records r ≡ a ++ x ∷ b → (15 ≤ x .len) × (x .at + x .len ≤ length r)
 records-within r a x b e = found-fits r (x .at) x (split-records r a x b e .stands)
 
--- What a record's header says fits its bits: the one version that is read, 12 bits of length, and 4 of flags.
+-- R3.1, R4.4: what a record's header says fits its bits: the one version that is read, 12 bits of length, and 4 of flags.
 pub records-edition : (r : List ℕ) (a : List Record) (x : Record) (b : List Record) → records r ≡ a ++ x ∷ b → x .version ≡ edition
 records-edition r a x b e =
     let f = found-there r a x b e in
@@ -79,19 +79,19 @@ records-flags r a x b e v =
     let l : flagsAt r (x .at) ≡ x .flags = ap (λ (y : Record). y .flags) (found-there r a x b e .same) in
     omega (arith, v (x .at + 1))
 
--- Records never overlap: each ends where the next begins or before.
+-- R4.6: records do not overlap: each ends where the next begins or before.
 pub records-apart : (r : List ℕ) (a : List Record) (x : Record) (b : List Record) (y : Record) (c : List Record)
     → records r ≡ a ++ x ∷ (b ++ y ∷ c) → x .at + x .len ≤ y .at
 records-apart r a x b y c e = reach-le (split b y c (split-records r a x (b ++ y ∷ c) e .from) .to)
 
--- The walk stops within the region, behind the last record.
+-- R4.6: the walk stops within the region, behind the last record.
 pub stop-within : (r : List ℕ) → placeOf (ending r) ≤ length r
 stop-within r = reach-within (omega arith) (reach-stop r)
 
 pub stops-behind : (r : List ℕ) (a : List Record) (x : Record) (b : List Record) → records r ≡ a ++ x ∷ b → x .at + x .len ≤ placeOf (ending r)
 stops-behind r a x b e = reach-le (split-records r a x b e .from)
 
--- The bytes of a record read back to its key, length and value, and its checksum is right.
+-- R3.1, R3.6: the bytes of a record read back to its key, length and value, and its checksum is right.
 pub reads-back : (key : ℕ) (value : List ℕ) → key < 2 ^ 64 → length value ≤ 4079
     → (length (recordBytes key value) ≡ recordLength (length value))
     × (metAt (recordBytes key value) 0 ≡ Met.Found (recordOf 0 key value))
@@ -99,7 +99,7 @@ pub reads-back : (key : ℕ) (value : List ℕ) → key < 2 ^ 64 → length valu
     × (checkSumFits (recordBytes key value) ≡ true)
 reads-back key value h l = (length-record key value, record-says key value h l, value-says key value, sum-says key value (checksum-fits (headerAndValue key value)))
 
--- Append's write at the end of a region whose tail is all 255 adds exactly that record, and leaves the bytes of all others.
+-- R5.4: append's write at the end of a region whose tail is all 255 adds exactly that record, and leaves the bytes of all others.
 pub append-adds : (r : List ℕ) (o key : ℕ) (value : List ℕ) → ending r ≡ End o → isBlank (drop o r) ≡ true → o + recordLength (length value) ≤ length r
     → key < 2 ^ 64 → length value ≤ 4079 → Bytes value
     → (walkFrom (written r o (recordBytes key value)) 0 ≡ record { recs = records r ++ recordOf o key value ∷ []; stop = End (o + recordLength (length value)) })
@@ -115,7 +115,7 @@ append-adds r o key value e b f k l v =
       subst (λ (r′ : List ℕ). Kept r′ r (records r)) (sym s) (kept-laid r new o (recordOf 0 key value) fits says (sym n) e b),
     )
 
--- What append wrote stands there: over a blank place the record's bytes are those of its key and value.
+-- R5.4: what append wrote stands there: over a blank place the record's bytes are those of its key and value.
 pub append-writes : (r : List ℕ) (o key : ℕ) (value : List ℕ) → isBlank (take (recordLength (length value)) (drop o r)) ≡ true → o + recordLength (length value) ≤ length r
     → length value ≤ 4079 → Bytes value → bytesIn (written r o (recordBytes key value)) (recordOf o key value) ≡ recordBytes key value
 append-writes r o key value b f l v =
@@ -127,8 +127,8 @@ append-writes r o key value b f l v =
     let w : take (recordLength (length value)) (drop (o + 0) (sets r o new)) ≡ take (recordLength (length value)) (drop 0 new) = sets-part r o new fits 0 (recordLength (length value)) (omega arith) in
     rw s (rw add-zero at w ∙ take-all (recordLength (length value)) new (omega arith))
 
--- What makes a record dead is computed from the record alone, and is what document 01 asks for of the region's bytes: "one write of byte 1 with the
--- top bit cleared", and "header with the top flag cleared, value and checksum 0".
+-- R3.7: what makes a record dead is known from the record alone, and is made of the region's bytes as they are: byte 1 with the top bit cleared;
+-- or version, byte 1 so, byte 2 and key, and 0 for every byte of value and checksum.
 pub removal-bytes : (r : List ℕ) (a : List Record) (x : Record) (b : List Record) → Bytes r → records r ≡ a ++ x ∷ b
     → (killBytes Removal.Invalidate x ≡ getD r (x .at + 1) 0 % 128 ∷ [])
     × (killBytes Removal.Zeroise x ≡ set (take 11 (drop (x .at) r)) 1 (getD r (x .at + 1) 0 % 128) ++ replicate (x .len - 11) 0)
@@ -136,12 +136,12 @@ removal-bytes r a x b v e =
     let are = bytes-are r x v (split-records r a x b e .stands) in
     (are Removal.Invalidate, are Removal.Zeroise)
 
--- Over the record the chip's write is the same as a store.
+-- R3.7: over the record the chip's write is the same as a store.
 pub removal-stores : (how : Removal) (r : List ℕ) (a : List Record) (x : Record) (b : List Record) → Bytes r → records r ≡ a ++ x ∷ b
     → written r (killPlace how x) (killBytes how x) ≡ sets r (killPlace how x) (killBytes how x)
 removal-stores how r a x b v e = kill-stores how r x v (split-records r a x b e .stands)
 
--- A removal's write makes exactly that record dead, and leaves the bytes of all others.
+-- R3.7: a removal's write makes exactly that record dead, and leaves the bytes of all others.
 pub removal-kills : (how : Removal) (r : List ℕ) (a : List Record) (x : Record) (b : List Record) → Bytes r → records r ≡ a ++ x ∷ b
     → (walkFrom (written r (killPlace how x) (killBytes how x)) 0 ≡ record { recs = a ++ dead x ∷ b; stop = ending r })
     × Kept (written r (killPlace how x) (killBytes how x)) r (a ++ b)
@@ -160,7 +160,7 @@ pub zeroise-kills : (r : List ℕ) (a : List Record) (x : Record) (b : List Reco
     × Kept (written r (killPlace Removal.Zeroise x) (killBytes Removal.Zeroise x)) r (a ++ b)
 zeroise-kills = removal-kills Removal.Zeroise
 
--- Zeroise leaves what it wrote: the record's header with the top flag cleared, and zeros over its value and checksum.
+-- R3.7: zeroise leaves what it wrote: the record's header with the top flag cleared, and zeros over its value and checksum.
 pub zeroise-zeros : (r : List ℕ) (a : List Record) (x : Record) (b : List Record) → Bytes r → records r ≡ a ++ x ∷ b
     → bytesIn (written r (killPlace Removal.Zeroise x) (killBytes Removal.Zeroise x)) x
     ≡ set (take 11 (drop (x .at) r)) 1 (getD r (x .at + 1) 0 % 128) ++ replicate (x .len - 11) 0
@@ -174,7 +174,7 @@ zeroise-zeros r a x b v e =
     let s : written r (x .at + 0) z ≡ sets r (x .at) z = removal-stores Removal.Zeroise r a x b v e ∙ ap (λ (p : ℕ). sets r p z) (add-zero (x .at)) in
     ap (λ (r′ : List ℕ). bytesIn r′ x) s ∙ rw add-zero at w ∙ take-all (x .len) z (omega arith) ∙ all
 
--- The bytes behind the last record stay: a tail that is all 255 is so after each of the writes.
+-- R10.1: the bytes behind the last record stay: a tail that is all 255 is so after each of the writes.
 pub append-tail : (r : List ℕ) (o key : ℕ) (value : List ℕ) → isBlank (drop o r) ≡ true → o + recordLength (length value) ≤ length r → length value ≤ 4079 → Bytes value
     → drop (o + recordLength (length value)) (written r o (recordBytes key value)) ≡ drop (o + recordLength (length value)) r
 append-tail r o key value b f l v =
@@ -204,7 +204,7 @@ pub zeroise-tail : (r : List ℕ) (a : List Record) (x : Record) (b : List Recor
     → drop (x .at + x .len) (written r (killPlace Removal.Zeroise x) (killBytes Removal.Zeroise x)) ≡ drop (x .at + x .len) r
 zeroise-tail = removal-tail Removal.Zeroise
 
--- A record that append writes is live, and one without its top flag is not.
+-- R3.4: a record that append writes is live, and one without its top flag is not.
 pub written-is-live : (o key : ℕ) (value : List ℕ) → live (recordOf o key value) ≡ true
 written-is-live o key value = refl
 

@@ -13,28 +13,28 @@ use Rattle.region.specs.declared.Met.{Met}
 use Rattle.region.specs.declared.Want.{Want}
 use Rattle.region.specs.declared.Event.{Event}
 
--- byte 1: low four the high bits of the length; byte 2: low eight bits of the length
+-- R3.1: the low four bits of byte 1 are the high four bits of the length, byte 2 is its low eight bits
 abbrev pub lengthAt : List ℕ → ℕ → ℕ
 lengthAt region o = getD region (o + 1) 0 % 16 * 256 + getD region (o + 2) 0 % 256
 
--- byte 1: top four bits flags
+-- R3.1: the top four bits of byte 1 are the flags
 abbrev pub flagsAt : List ℕ → ℕ → ℕ
 flagsAt region o = getD region (o + 1) 0 / 16
 
--- bytes 3 to 10: key, big-endian
+-- R3.1: bytes 3 to 10 are the key, its highest byte first
 abbrev pub keyAt : List ℕ → ℕ → ℕ
 keyAt region o = bigEndianAt 8 region (o + 3)
 
--- the record that the bytes at o say
+-- R3.1: the record that the bytes at o say: its length, version, flags and key
 abbrev pub recordAt : List ℕ → ℕ → Record
 recordAt region o = record { at = o; len = lengthAt region o; version = getD region o 0; flags = flagsAt region o; key = keyAt region o }
 
--- The five steps at a place, where so many bytes are left and they say the record x.
--- 1. "Fewer than 15 bytes left: the walk ends."
--- 2. "Byte o is 255: the walk ends, free place o."
--- 3. "Byte o is not 1: bad, UnsupportedVersion."
--- 4. "Length below 15, or past the region's end: bad, CorruptData."
--- 5. "Otherwise a record."
+-- R4.1: the first of these that applies at a place, where so many bytes are left and they say the record x.
+-- R4.2: fewer than 15 bytes are left: the walk ends.
+-- R4.3: the first byte is 255: the walk ends. This is the free place.
+-- R4.4: the first byte is not 1: the place is bad, UnsupportedVersion.
+-- R4.5: the length is below 15, or more than the bytes that are left: the place is bad, CorruptData.
+-- R4.6: otherwise a record stands there.
 unfoldable pub metOf : ℕ → Record → Met
 metOf left x =
     cond (ltb left (leastLength edition)) (Met.Stop (End (x .at)))
@@ -43,70 +43,75 @@ metOf left x =
     (cond (ltb (x .len) (leastLength (x .version)) || ltb left (x .len)) (Met.Stop (Bad CorruptData (x .at)))
     (Met.Found x))))
 
--- "At place o".
+-- R4.1: what a walk meets at a place o.
 abbrev pub metAt : List ℕ → ℕ → Met
 metAt region o = metOf (length region - o) (recordAt region o)
 
--- The parsed view of a region: its records in order, and how and where the walk stops.
+-- R4.7: a region's view: the records that a walk met, in their order, and how and where it stopped.
 pub record View : Type 0 where
   pub recs : List Record
   pub stop : Stop
 
+-- R4.7: the view of a walk that stopped and met no record.
 abbrev pub stopped : Stop → View
 stopped s = record { recs = []; stop = s }
 
+-- R4.7: the view of a walk that met a record, and then the rest.
 abbrev pub passed : Record → View → View
 passed x v = record { recs = x ∷ v .recs; stop = v .stop }
 
--- "Go on at o + length." The walk from o on, in so many steps at most.
+-- R4.6: the walk goes on at o plus the record's length. The walk from o on, in so many steps at most.
 unfoldable pub walkIn : ℕ → List ℕ → ℕ → View
 walkIn zero region o = stopped (End o)
 walkIn (suc n) region o = elim (metAt region o) [ Met.Found x ↦ passed x (walkIn n region (o + x .len)) | Met.Stop s ↦ stopped s ]
 
--- The walk from o on. Each record has 15 bytes or more, so the bytes left are steps enough.
+-- R4.6: every walk ends: each record has 15 bytes or more, so the bytes left are steps enough. The walk from o on.
 unfoldable pub walkFrom : List ℕ → ℕ → View
 walkFrom region o = walkIn (length region - o) region o
 
--- "A walk starts at place 0 of a region."
+-- R4.1, R4.7: a walk starts at place 0 of a region: the records that it met.
 abbrev pub records : List ℕ → List Record
 records region = walkFrom region 0 .recs
 
+-- R4.1, R4.7: a walk starts at place 0 of a region: how and where it stopped.
 abbrev pub ending : List ℕ → Stop
 ending region = walkFrom region 0 .stop
 
--- the bytes of a record
+-- R3.2: the bytes of a record: its length counts the whole of it
 abbrev pub bytesIn : List ℕ → Record → List ℕ
 bytesIn region x = take (x .len) (drop (x .at) region)
 
--- "Value length is record length less 15."
+-- R4.7: the value of a record has its length less 15 bytes.
 abbrev pub valueLength : Record → ℕ
 valueLength x = x .len - leastLength (x .version)
 
--- byte 11 on: value; all but the last 4
+-- R4.7: the value of a record is its bytes from 11 up to the last four
 abbrev pub valueIn : List ℕ → Record → List ℕ
 valueIn region x = take (valueLength x) (drop (headerLength (x .version)) (bytesIn region x))
 
--- the live record of a key and a value whose bytes stand at o
+-- R3.4: the record of a key and a value as it is written, at o, with flags 8: it is live
 abbrev pub recordOf : ℕ → ℕ → List ℕ → Record
 recordOf o key value = record { at = o; len = recordLength (length value); version = edition; flags = 8; key = key }
 
--- a record whose top flag is cleared
+-- R3.4: a record is dead once the top one of its flags is cleared
 abbrev pub dead : Record → Record
 dead x = record { at = x .at; len = x .len; version = x .version; flags = x .flags % 8; key = x .key }
 
--- a live record of the key, or any live record
+-- R4.8: what is sought: a live record of the key, or any live record
 abbrev pub isWanted : Want → Record → Bool
 isWanted (Want.Key k) x = live x && eqb (x .key) k
 isWanted Want.Any x = live x
 
+-- R4.8: where no record decides, the bad place or the end does
 abbrev pub eventOf : Stop → Event
 eventOf (End o) = Event.End o
 eventOf (Bad f o) = Event.Bad f o
 
--- "The walk yields the first event that decides it: a live record of the key, a bad place, or the end."
+-- R4.8: the first that decides: a record that is sought, a bad place, or the end.
 unfoldable pub firstOf : (Record → Bool) → List Record → Stop → Event
 firstOf test [] s = eventOf s
 firstOf test (x ∷ xs) s = cond (test x) (Event.Live x) (firstOf test xs s)
 
+-- R4.8: what decides the walk of a region, where a key or any live record is sought.
 abbrev pub eventIn : List ℕ → Want → Event
 eventIn region want = firstOf (isWanted want) (records region) (ending region)

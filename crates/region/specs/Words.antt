@@ -9,11 +9,11 @@ use Rattle.region.specs.declared.Stop.{Stop}
 use Rattle.region.specs.declared.Stop.the-variants.{End, Bad}
 use Rattle.region.specs.Walk.{bytesIn}
 
--- No record of a list passes the test.
+-- R4.8: no record of a list is one that is sought: none passes the test.
 abbrev pub None : (Record → Bool) → List Record → Type 0
 None test xs = Every (λ (x : Record). test x ≡ false) xs
 
--- The first record that passes the test.
+-- R4.8: the first record that is sought: it passes the test, and none before it does.
 pub record First (test : Record → Bool) (xs : List Record) (x : Record) : Type 0 where
   pub before : List Record
   pub after : List Record
@@ -21,11 +21,11 @@ pub record First (test : Record → Bool) (xs : List Record) (x : Record) : Type
   pub passes : test x ≡ true
   pub first : None test before
 
--- The bytes of these records are the same in both.
+-- R11.2, R11.3: what a write leaves of the others: the bytes of these records are the same in both.
 abbrev pub Kept : List ℕ → List ℕ → List Record → Type 0
 Kept r′ r xs = Every (λ (x : Record). bytesIn r′ x ≡ bytesIn r x) xs
 
--- the place of a stop
+-- R4.7: where a walk stopped
 abbrev pub placeOf : Stop → ℕ
 placeOf (End o) = o
 placeOf (Bad f o) = o

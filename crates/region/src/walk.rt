@@ -32,7 +32,7 @@ fn key_at(region: &[u8], at: usize) -> u64
     key
 }
 
-// What stands at a place: the five steps, in their order.
+// What stands at a place: the first of R4.2 to R4.6 that applies.
 pub fn look(region: &[u8], at: usize) -> Met
     requires { ⌜ at ≤ length (now region) ⌝ }
     ensures { λ r. ⌜ r ≡ metAt (now (region .entry)) at ⌝ }

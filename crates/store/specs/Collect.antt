@@ -10,8 +10,8 @@ use Rattle.sweeping.specs.declared.Verdict.{Verdict}
 use Rattle.sweeping.specs.Sweeps.{verdict}
 use Rattle.store.specs.Write.{Done, refused}
 
--- the regions of a list in its order, with so many bytes freed before them. "A bad place ends the call with its refusal; regions before it are
--- already collected, it and later ones stand."
+-- R5.7, R5.8: the regions of a list in its order, with so many bytes freed before them. A bad place that decides ends collect with its refusal:
+-- the regions before it are collected already; it and those after it stand.
 unfoldable pub collectIn : ℕ → List ℕ → ℕ → List ℕ → Done
 collectIn s image freed [] = record { answer = Freed freed; image = image }
 collectIn s image freed (r ∷ rs) = elim (verdict r (regionOf s image r)) [
@@ -20,6 +20,6 @@ collectIn s image freed (r ∷ rs) = elim (verdict r (regionOf s image r)) [
   | Verdict.Bad f p ↦ refused (refusalOf f) image
 ]
 
--- "Regions 0 to N-1 in number order."
+-- R5.7: collect in one call: regions 0 to N - 1 are taken in number order.
 unfoldable pub collectOf : List ℕ → ℕ → ℕ → Done
 collectOf image s n = cond (geometry image s n) (collectIn s image 0 (numbers 0 n)) (refused Refusal.BadGeometry image)

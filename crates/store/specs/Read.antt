@@ -9,16 +9,17 @@ use Rattle.plans.specs.declared.Answer.{Answer}
 use Rattle.plans.specs.declared.Answer.the-variants.{Refused}
 use Rattle.values.specs.Values.{readAnswer, readBuffer}
 
--- what get answers, and what its buffer then holds
+-- R7.5: the one answer of get, and the one content of its buffer afterwards
 pub record Got : Type 0 where
   pub answer : Answer
   pub buffer : List ℕ
 
--- "Regions in probe order; the first live record of the key or bad place answers."
+-- R5.2: a live record decides: its value into the buffer. A bad place decides, or no region: the refusal, and the buffer stays.
 abbrev pub gotBy : ℕ → List ℕ → List ℕ → Hit → Got
 gotBy s image buffer (Hit.Refused w) = record { answer = Refused w; buffer = buffer }
 gotBy s image buffer (Hit.Live r x) =
     record { answer = readAnswer (regionOf s image r) x (length buffer); buffer = readBuffer (regionOf s image r) x buffer }
 
+-- R5.2: get in one call.
 unfoldable pub getOf : List ℕ → ℕ → ℕ → ℕ → List ℕ → Got
 getOf image s n key buffer = gotBy s image buffer (hitOf image s n key)

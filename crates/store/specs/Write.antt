@@ -23,48 +23,53 @@ use Rattle.plans.specs.Writes.{listed, applied}
 use Rattle.planning.specs.Planning.{appendPlan, removePlan}
 use Rattle.store.specs.Read.{getOf}
 
--- what a call answers, and what the image then is
+-- R7.5: the one answer of a call, and the one image afterwards
 pub record Done : Type 0 where
   pub answer : Answer
   pub image : List ℕ
 
+-- R7.3: a refused call alters no byte of the image
 abbrev pub refused : Refusal → List ℕ → Done
 refused w image = record { answer = Refused w; image = image }
 
--- The plans of append and of the removals end with an answer.
+-- R7.1: the plans of append and of the removals end with an answer.
 abbrev pub endOf : Then → Answer
 endOf (Then.Ends answer) = answer
 endOf (Then.Seek aim i seen) = Refused Refusal.BadCall
 endOf (Then.Sweep r k) = Refused Refusal.BadCall
 endOf (Then.Gives r x anew) = Refused Refusal.BadCall
 
--- A plan carried out on an image: its edits one after the other, and its answer.
+-- R9.7: a plan carried out on an image: what it writes or erases, one after the other, and its answer.
 abbrev pub carried : ℕ → ℕ → List ℕ → List ℕ → Plan → Done
 carried s key value image p = record { answer = endOf (p .next); image = applied s key value (listed (p .edits)) image }
 
--- Append. "All N regions are walked in probe order; the first live record of the key or bad place answers."
+-- R5.3, R5.4: append, by what its lookup came to.
 abbrev pub appendBy : ℕ → List ℕ → ℕ → List ℕ → Looked → Done
 appendBy s image key value looked = carried s key value image (appendPlan looked)
 
+-- R5.3, R7.2: where the arguments are refused nothing is read; else the key is looked up over all N regions.
 abbrev pub appendAfter : List ℕ → ℕ → ℕ → ℕ → List ℕ → Check → Done
 appendAfter image s n key value (Check.Refused w) = refused w image
 appendAfter image s n key value Check.Fine =
     appendBy s image key value (lookupIn key (Need.Room (recordLength (length value))) s image (probes key n))
 
+-- R5.3, R5.4: append in one call.
 unfoldable pub appendOf : List ℕ → ℕ → ℕ → ℕ → List ℕ → Done
 appendOf image s n key value = appendAfter image s n key value (firstRefusal image s n key (length value))
 
--- Invalidate and zeroise. "Found as in get"; "Written. No checksum test."
+-- R5.5, R5.6: a removal, by what its lookup came to: the checksum is not looked at.
 abbrev pub removeBy : Removal → ℕ → List ℕ → ℕ → Hit → Done
 removeBy how s image key hit = carried s key [] image (removePlan how hit)
 
+-- R5.5, R5.6: invalidate and zeroise in one call.
 unfoldable pub removeOf : Removal → List ℕ → ℕ → ℕ → ℕ → Done
 removeOf how image s n key = removeBy how s image key (hitOf image s n key)
 
--- Initialise. "Get of the main key into an empty buffer. Complete: nothing changes. Refusals 4, 7, 8, 9 and 10 erase every region and append the main
--- key with an empty value; Written."
+-- R5.9: by the answer of a get of the main key into an empty buffer. Complete: nothing changes. Refused by 4, 7, 8, 9 or 10: every region is
+-- erased and the main key is appended with an empty value, Written.
 abbrev pub initialiseBy : List ℕ → ℕ → ℕ → ℕ → Answer → Done
 initialiseBy image s n key answer = cond (startsAnew answer) (appendOf (erased (n * s)) s n key []) (record { answer = answer; image = image })
 
+-- R5.9: initialise in one call.
 unfoldable pub initialiseOf : List ℕ → ℕ → ℕ → ℕ → Done
 initialiseOf image s n key = initialiseBy image s n key (getOf image s n key [] .answer)

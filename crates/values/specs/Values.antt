@@ -11,14 +11,14 @@ use Rattle.refusals.specs.declared.Refusal.{Refusal}
 use Rattle.plans.specs.declared.Answer.{Answer}
 use Rattle.plans.specs.declared.Answer.the-variants.{Complete, Refused}
 
--- "A buffer that is too short ... BufferTooSmall gives the full value length, checksum not looked at. Else ... the checksum is compared:
--- Complete with the length, or InvalidCheckSum". By the record, its region, and the length of the buffer.
+-- R5.2: the buffer is shorter than the value: BufferTooSmall with the value's length, and the checksum is not looked at. Else Complete with it
+-- if the checksum is right, and else InvalidCheckSum. By the record, its region, and the length of the buffer.
 abbrev pub readAnswer : List ℕ → Record → ℕ → Answer
 readAnswer region x capacity =
     cond (ltb capacity (valueLength x)) (Refused (Refusal.BufferTooSmall (valueLength x)))
     (cond (checkSumFits (bytesIn region x)) (Complete (valueLength x)) (Refused Refusal.InvalidCheckSum))
 
--- "filled with the value's first bytes"; "Else the value is copied to the buffer's front, bytes after it stay".
+-- R5.2: a shorter buffer is filled with the value's first bytes. Else the value is copied to its front, and its bytes after it stay.
 abbrev pub readBuffer : List ℕ → Record → List ℕ → List ℕ
 readBuffer region x buffer =
     cond (ltb (length buffer) (valueLength x)) (take (length buffer) (valueIn region x))
