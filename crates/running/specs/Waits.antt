@@ -31,7 +31,7 @@ abbrev pub waitFirst : ℕ → ℕ → First → Then → Wait
 waitFirst key n (First.Do e) next = Wait.Edit e
 waitFirst key n First.Nothing next = waitNext key n next
 
--- R8.5: a fresh operation waits for "begin", any other for its next service.
+-- R8.5: a fresh operation waits for "begin", any other for its next service, or for nothing more.
 abbrev pub waitOf : Op → Wait
 waitOf op = cond (op .fresh) Wait.Begin (waitFirst (op .key) (op .n) (first (op .plan .edits)) (op .plan .next))
 
