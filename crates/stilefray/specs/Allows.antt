@@ -1,5 +1,5 @@
--- What each of the fourteen exports' contracts allows: its answer, and what it leaves in the bytes that it was lent to alter. The contracts cite these names, and
--- exports says of each that it allows one result.
+-- What each of the fourteen exports' contracts allows: its answer, and what it leaves in the bytes that it was lent to alter. The contracts cite these
+-- names, and exports says of each that it allows one result.
 use Prim.Native.Nat.{ℕ}
 use mathlib.Core.Path.{_≡_}
 use mathlib.Core.List.{List}
