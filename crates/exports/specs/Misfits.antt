@@ -1,7 +1,7 @@
--- What makes a step a BadCall, in words, over the numbers and the bytes that a caller passes. Nothing here says how numbers are read: an operation's own
--- numbers are `packed` of it, and every one that a start or a step hands out is `few` (stilefray: start-few, step-few). `lent` is 1 where a value is
--- lent and 2 where a buffer is, of `len` bytes; `fresh` is 1 before the first step; the replies are 0 begin, 1 done, 2 not ready, 3 failed; `next` is 6
--- after the end.
+-- What makes a step a BadCall, in words, over the numbers and the bytes that a caller passes. Nothing here says how numbers are read: an operation's
+-- own numbers are `packed` of it, and every one that a start or a step hands out is `few` (stilefray: start-few, step-few). `lent` is 1 where a value
+-- is lent and 2 where a buffer is, of `len` bytes; `fresh` is 1 before the first step; the replies are 0 begin, 1 done, 2 not ready, 3 failed; `next`
+-- is 6 after the end.
 use Prim.Native.Nat.{ℕ, _<_}
 use mathlib.Core.Path.{_≡_}
 use mathlib.Core.Bool.{true}

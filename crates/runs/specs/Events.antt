@@ -23,7 +23,7 @@ pub data Event : Type 0 where
   in-steps : (c : Call) (region : List ℕ) (beats : List Beat) → Event
   fails : (c : Call) (region : List ℕ) (beats : List Beat) (bytes : List ℕ) → Event
 
--- R8.9: the buffer that get is lent; to the others none.
+-- R8.3: the buffer that get is lent.
 abbrev pub bufferIn : Call → List ℕ
 bufferIn (get key buffer) = buffer
 bufferIn (append key value) = []
@@ -47,7 +47,7 @@ unfoldable pub imageAfterEvents : ℕ → ℕ → List Event → List ℕ → Li
 imageAfterEvents s n [] image = image
 imageAfterEvents s n (v ∷ vs) image = imageAfterEvents s n vs (imageAfterEvent s n v image)
 
--- R8.9: an event's arguments are what the types of the calls allow, and the region buffer has S bytes.
+-- R11.8, R11.9: an event's arguments are what the types of the calls allow, and the region buffer has S bytes.
 pub data TypedIn (s : ℕ) : Event → Type 0 where
   typed-one : {c : Call} → Typed c → TypedIn s (in-one c)
   typed-steps : {c : Call} {region : List ℕ} {beats : List Beat} → Typed c → length region ≡ s → TypedIn s (in-steps c region beats)

@@ -133,7 +133,7 @@ pub record Same (run run′ : Run) : Type 0 where
 
 -- Any call, taken one service at a time.
 
--- R8.9: what is lent for a call: append's value is its own and so is get's buffer; where a call has none, anything may be lent (R8.3).
+-- R8.3: what is lent for a call: append's value is its own and so is get's buffer; where a call has none, anything may be lent.
 pub data Lends : Call → List ℕ → List ℕ → Type 0 where
   lends-get : {key : ℕ} {value buffer : List ℕ} → Lends (get key buffer) value buffer
   lends-append : {key : ℕ} {value buffer : List ℕ} → Lends (append key value) value buffer
