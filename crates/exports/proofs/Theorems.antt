@@ -22,13 +22,13 @@ use Rattle.exports.proofs.Handed.{answers-6, rest-left, asked-again}
 
 -- One step, over any numbers and any bytes.
 
--- R6.11: BadCall, exactly when one of the rule's clauses says so.
+-- R6.11: BadCall, exactly when one of its clauses says so.
 pub bad-call-exactly-when : (o : COperation) (y : ℕ) (region value buffer : List ℕ)
     → (stepNumbers o y region value buffer .request .answer .refusal ≡ 11) ↔ Misfits o y region value buffer
 bad-call-exactly-when o y region value buffer = bad-call o y region value buffer
 
--- R6.12: FlashFailed, exactly when the host says that the service failed, by the reply 3, and 11 comes before 12 (R7.2): where no clause of R6.11 says
--- so.
+-- R6.12: FlashFailed, exactly when the host says that the service failed, by the reply 3, where no clause of R6.11 says BadCall: 11 comes before 12
+-- (R7.2).
 pub flash-failed-exactly-when : (o : COperation) (y : ℕ) (region value buffer : List ℕ)
     → (stepNumbers o y region value buffer .request .answer .refusal ≡ 12) ↔ ((Misfits o y region value buffer → ⊥) × (y ≡ 3))
 flash-failed-exactly-when o y region value buffer = flash-failed o y region value buffer

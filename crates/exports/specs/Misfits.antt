@@ -12,8 +12,7 @@ use Rattle.rule.specs.Rule.{rule}
 use Rattle.operations.specs.declared.COperation.{COperation}
 use Rattle.numbers.specs.Packs.{few, packed}
 
--- R6.11: BadCall, each clause of the rule. An operation that has ended keeps the written rule, so that of its numbers the clause on the end speaks
--- alone.
+-- R6.11: BadCall, clause by clause. An operation that has ended keeps the written rule, so that of its numbers the clause on the end speaks alone.
 pub data Misfits (o : COperation) (y : ℕ) (region value buffer : List ℕ) : Type 0 where
   -- R6.11: the region buffer has not S bytes.
   region-buffer : (length region ≡ o .s → ⊥) → Misfits o y region value buffer

@@ -97,8 +97,8 @@ endNumbers Written = nextAt 4 0 0
 endNumbers (Freed bytes) = nextAt 5 bytes 0
 endNumbers (Refused w) = nextAt 0 0 0
 
--- R12.4: `next`: 1 seek, 2 sweep, 3 complete, 4 written, 5 freed. What the rule lets no operation rest before, a value that is to be given and a
--- refusal after an edit, is 0: nothing that runs.
+-- R12.4: `next`: 1 seek, 2 sweep, 3 complete, 4 written, 5 freed. What the written rule lets no operation rest before, a value that is to be given and
+-- a refusal after an edit, is 0: nothing that runs.
 abbrev pub nextNumbers : Then → Next
 nextNumbers (Then.Ends answer) = endNumbers answer
 nextNumbers (Then.Seek aim i seen) = seekNumbers aim i (seen .room)

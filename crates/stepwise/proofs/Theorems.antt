@@ -156,16 +156,16 @@ reply-fits op y region value buffer k a f l t = fits op y region value buffer k 
 
 -- Exactly when a step is refused.
 
--- R6.11: the test that a step makes of its call, `fitsHere`, passes exactly when no clause of the rule speaks of the call.
+-- R6.11: the test that a step makes of its call, `fitsHere`, passes exactly when none of the rule's clauses speaks of the call.
 pub fits-exactly-when : (op : Op) (y : Reply) (region value buffer : List ℕ) → (fitsHere op y region value buffer ≡ true) ↔ (Misfit op y region value buffer → ⊥)
 fits-exactly-when op y region value buffer = fits-when op y region value buffer
 
--- R6.11: BadCall, exactly when one of the rule's clauses says so.
+-- R6.11: BadCall, exactly when one of its clauses says so.
 pub bad-call-exactly-when : (op : Op) (y : Reply) (region value buffer : List ℕ)
     → (requestRefusal (stepped op y region value buffer .request) ≡ 11) ↔ Misfit op y region value buffer
 bad-call-exactly-when op y region value buffer = eleven-when op y region value buffer
 
--- R6.12: FlashFailed, exactly when the host says that the service failed, and 11 comes before 12 (R7.2): where no clause of R6.11 says so.
+-- R6.12: FlashFailed, exactly when the host says that the service failed, where no clause of R6.11 says BadCall: 11 comes before 12 (R7.2).
 pub flash-failed-exactly-when : (op : Op) (y : Reply) (region value buffer : List ℕ)
     → (requestRefusal (stepped op y region value buffer .request) ≡ 12) ↔ ((Misfit op y region value buffer → ⊥) × (y ≡ Reply.Failed))
 flash-failed-exactly-when op y region value buffer = twelve-when op y region value buffer
@@ -209,14 +209,14 @@ abbrev StepAllows : Op → Reply → List ℕ → List ℕ → List ℕ → Step
 StepAllows op y region value buffer t r b =
     (t ≡ stepped op y region value buffer) × (r ≡ regionAfter op y region value buffer) × (b ≡ bufferAfter op y region value buffer)
 
--- R7.5: of a step.
+-- R7.5: one result of a step.
 pub step-only-one : (op : Op) (y : Reply) (region value buffer : List ℕ) {t t′ : Stepped} {r r′ b b′ : List ℕ}
     → StepAllows op y region value buffer t r b
     → StepAllows op y region value buffer t′ r′ b′
     → (t ≡ t′) × (r ≡ r′) × (b ≡ b′)
 step-only-one op y region value buffer (p, q, u) (p′, q′, u′) = (p ∙ sym p′, q ∙ sym q′, u ∙ sym u′)
 
--- R7.5: of each start.
+-- R7.5: one result of each start.
 only-one : {start a a′ : Start} → a ≡ start → a′ ≡ start → a ≡ a′
 only-one p p′ = p ∙ sym p′
 

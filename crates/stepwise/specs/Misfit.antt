@@ -12,7 +12,7 @@ use Rattle.running.specs.declared.Request.{Request}
 use Rattle.running.specs.Waits.{requestOf}
 use Rattle.rule.specs.Rule.{rule}
 
--- R6.11: BadCall, each clause of the rule.
+-- R6.11: BadCall, clause by clause.
 pub data Misfit (op : Op) (y : Reply) (region value buffer : List ℕ) : Type 0 where
   -- R6.11: the region buffer has not S bytes.
   region-buffer : (length region ≡ op .s → ⊥) → Misfit op y region value buffer
