@@ -19,8 +19,8 @@ use Rattle.replies.proofs.Answered.{answerIn, answer-back, requestIn, request-b
 use Rattle.numbers.proofs.Own.{own, no-layout}
 use Rattle.numbers.proofs.Standing.{Standing, runs, breaks, ended, stood}
 
--- R12.5: the numbers of an operation that keeps the rule, waits with no more than one edit or a run of erases and has something left to do stand for
--- that operation.
+-- R12.5: the numbers of an operation that keeps the written rule, waits with no more than one edit or a run of erases and has something left to do
+-- stand for that operation.
 pub unpacks-packed : (op : Op) → rule op ≡ true → few (op .plan .edits) ≡ true → over (op .plan) ≡ false → unpacked (packed op) ≡ KnownOp.Known op
 unpacks-packed op r h v = go (stood op h)
   where
@@ -50,7 +50,7 @@ pub nothing-runs : unpacked noOperation ≡ KnownOp.Unknown
 unfolding unpacked standing
 nothing-runs = refl
 
--- R12.1: the refusal's number in an answer is the one that R6 gives it, and 0 where the answer is no refusal.
+-- R12.1: the refusal's number in an answer is its own, k for R6.k, and 0 where the answer is no refusal.
 pub refusal-numbers : (answer : Answer) → answerNumbers answer .refusal ≡ refusal answer
 refusal-numbers (Complete len) = refl
 refusal-numbers Written = refl

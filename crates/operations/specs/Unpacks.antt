@@ -114,7 +114,7 @@ leftIn o = cond (eqb (o .edit) 0) false (cond (eqb (o .edit) 5) (ltb (o .region)
 abbrev pub ownEnd : COperation → Bool
 ownEnd o = plain o && (eqb (o .b) 0 && leftIn o)
 
--- R12.5: `next` is one that the header lists of what runs, and those of its numbers that it does not use are 0.
+-- R12.5: `next` is 1 to 5, since 0 and 6 are nothing that runs, and those of its numbers that it does not use are 0.
 abbrev pub ownNext : COperation → Bool
 ownNext o =
     cond (eqb (o .next) 1) (ownAim (o .aim) && ownGathered (o .tag) (o .b) (o .c))
@@ -123,7 +123,8 @@ ownNext o =
     (cond (eqb (o .next) 4) (eqb (o .a) 0 && ownEnd o)
     (eqb (o .next) 5 && ownEnd o))))
 
--- R12.5: numbers stand for an operation: the layout is 8, and each number is one that the header lists, or 0 where it is not used.
+-- R12.5: numbers stand for an operation: the layout is 8, each kind is one that the header lists, what is not used is 0, and an answer that is next
+-- has something to write or erase before it.
 unfoldable pub standing : COperation → Bool
 standing o = eqb (o .layout) 8 && (ownNext o && (ownFresh (o .fresh) && (ownLent (o .lent) (o .len) && ownEdit o)))
 

@@ -91,7 +91,7 @@ module _ (c : Call) (image region value buffer : List ℕ) (s n : ℕ) (reads : 
   pub waiting-is-nothing : (beats : List Beat) → Same (run beats) (run (replicate (readies beats) ready))
   waiting-is-nothing = run-unwaited c (freshOf c s n) image region value buffer s n starts (reads .fits) long lends
 
-  -- R9.7: it does not end before: with fewer services done it asks for one.
+  -- R8.8, R9.7: it does not end before: with fewer services done it asks for one.
   pub not-before : (beats : List Beat) → readies beats < length (services c image s n) → asks (run beats .host .request) ≡ true
   not-before = run-goes-on c (freshOf c s n) image region value buffer s n starts (reads .fits) long lends
 

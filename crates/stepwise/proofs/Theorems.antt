@@ -50,7 +50,7 @@ start-refuses-exactly-when c s n w = refuses-when c s n w
 pub start-runs-exactly-when : (c : Call) (s n : ℕ) (op : Op) → (startOf c s n ≡ Start.Runs op) ↔ (Allowed s n c × (op ≡ freshOf c s n))
 start-runs-exactly-when c s n op = runs-when c s n op
 
--- The rule.
+-- The written rule.
 
 -- R8.10: every operation that a start hands out keeps the written rule,
 pub start-keeps : (c : Call) (s n : ℕ) (op : Op) → startOf c s n ≡ Start.Runs op → rule op ≡ true
@@ -74,11 +74,11 @@ step-keeps op y region value buffer k = go (fitsHere op y region value buffer) r
 
 -- What is asked for.
 
--- R8.4: what a step asks for lies in the chip, of every operation, whether it keeps the rule or not: BadCall asks for nothing.
+-- R8.4: what a step asks for lies in the chip, of every operation, whether it keeps the written rule or not: BadCall asks for nothing.
 pub step-inside : (op : Op) (y : Reply) (region value buffer : List ℕ) → Inside (op .s) (op .n) (stepped op y region value buffer .request)
 step-inside op y region value buffer = steps-inside (steps op y region value buffer)
 
--- R8.4: and what one that keeps the rule waits for.
+-- R8.4: and what one that keeps the written rule waits for.
 pub asks-inside : (op : Op) → rule op ≡ true → Inside (op .s) (op .n) (requestOf op)
 asks-inside op k = inside op (ruled op k)
 
