@@ -58,7 +58,7 @@ module _ (o : COperation) (y : ℕ) (region value buffer : List ℕ) where
       go (KnownOp.Known op) KnownReply.Unknown e f = same (no-reply o y region value buffer f) (nothing (Misfits.no-reply (omega (arith, no-reply-over y f))))
       go (KnownOp.Known op) (KnownReply.Known said) e f = same (fit o y region value buffer op said e f) (runs op said (reads o op e) f)
 
-  -- The clauses of line 11 for numbers that stand for an operation and a reply are those for the operation and the reply.
+  -- R6.11: its clauses for numbers that stand for an operation and a reply are those for the operation and the reply.
 
   -- no operation that keeps the rule has the numbers of one that breaks it
   no-rule : {op : Op} → Reads o op → rule op ≡ false → (op′ : Op) → rule op′ ≡ true → few (op′ .plan .edits) ≡ true → o ≡ packed op′ → ⊥

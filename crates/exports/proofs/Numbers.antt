@@ -80,7 +80,7 @@ module _ (o : COperation) (y : ℕ) (region value buffer : List ℕ) where
           (λ g. let (next, aim) = looks-get k (g .is-get) in inr (next, aim, subst (λ (q : Request). ReadsNumbers (requestNumbers q)) (sym (g .answers)) (answers (g .read))))
           (Steps.buffer-altered-only op said region value buffer)
 
-  -- A call that a clause of line 11 speaks of alters nothing.
+  -- R6.11: a call that one of its clauses speaks of alters nothing.
   pub misfits-keep : Misfits o y region value buffer
       → (stepNumbers o y region value buffer ≡ badCall o) × (stepRegion o y region value buffer ≡ region) × (stepBuffer o y region value buffer ≡ buffer)
   misfits-keep m = go (called o y region value buffer)

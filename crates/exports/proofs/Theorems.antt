@@ -22,56 +22,57 @@ use Rattle.exports.proofs.Handed.{answers-6, rest-left, asked-again}
 
 -- One step, over any numbers and any bytes.
 
--- 11 BadCall, exactly when one of the clauses of its line says so.
+-- R6.11: BadCall, exactly when one of its clauses says so.
 pub bad-call-exactly-when : (o : COperation) (y : ℕ) (region value buffer : List ℕ)
     → (stepNumbers o y region value buffer .request .answer .refusal ≡ 11) ↔ Misfits o y region value buffer
 bad-call-exactly-when o y region value buffer = bad-call o y region value buffer
 
--- 12 FlashFailed, exactly when "the host reports a failed service", by the reply 3; "11 before 12": where no clause of line 11 says so.
+-- R6.12: FlashFailed, exactly when the host says that the service failed, by the reply 3, where no clause of R6.11 says BadCall: 11 comes before 12
+-- (R7.2).
 pub flash-failed-exactly-when : (o : COperation) (y : ℕ) (region value buffer : List ℕ)
     → (stepNumbers o y region value buffer .request .answer .refusal ≡ 12) ↔ ((Misfits o y region value buffer → ⊥) × (y ≡ 3))
 flash-failed-exactly-when o y region value buffer = flash-failed o y region value buffer
 
--- A step that answers, BadCall aside, hands back numbers that say so: 6,
+-- R12.7: a step that answers, BadCall aside, hands back numbers that say so: 6,
 pub ended-is-6 : (o : COperation) (y : ℕ) (region value buffer : List ℕ) → (Misfits o y region value buffer → ⊥)
     → stepNumbers o y region value buffer .request .kind ≡ 4 → stepNumbers o y region value buffer .op .next ≡ 6
 ended-is-6 o y region value buffer fits e = answers-6 o y region value buffer fits e
 
--- so that every further step on them is BadCall.
+-- R6.11: so that every further step on them is BadCall.
 pub after-the-end-bad-call : (o : COperation) (y : ℕ) (region value buffer : List ℕ) → (Misfits o y region value buffer → ⊥)
     → stepNumbers o y region value buffer .request .kind ≡ 4
     → (y′ : ℕ) (region′ value′ buffer′ : List ℕ) → stepNumbers (stepNumbers o y region value buffer .op) y′ region′ value′ buffer′ .request .answer .refusal ≡ 11
 after-the-end-bad-call o y region value buffer fits e y′ region′ value′ buffer′ =
     bad-call-exactly-when _ y′ region′ value′ buffer′ .1 (Misfits.after-the-end (ended-is-6 o y region value buffer fits e))
 
--- "BadCall leaves the running operation as it was": all its numbers, and region and buffer too.
+-- R6.11: BadCall leaves the running operation as it was: all its numbers, and region and buffer too.
 pub bad-call-keeps-all : (o : COperation) (y : ℕ) (region value buffer : List ℕ) → Misfits o y region value buffer
     → (stepNumbers o y region value buffer ≡ badCall o) × (stepRegion o y region value buffer ≡ region) × (stepBuffer o y region value buffer ≡ buffer)
 bad-call-keeps-all o y region value buffer m = misfits-keep o y region value buffer m
 
--- What a step asks for lies in the chip that its numbers name, whatever they are: BadCall asks for nothing.
+-- R8.4: what a step asks for lies in the chip that its numbers name, whatever they are: BadCall asks for nothing.
 pub step-inside : (o : COperation) (y : ℕ) (region value buffer : List ℕ) → InsideNumbers (o .s) (o .n) (stepNumbers o y region value buffer .request)
 step-inside o y region value buffer = inside o y region value buffer
 
--- The region buffer is altered by no step but the one that asks for a write.
+-- R8.6: the region buffer is altered by no step but the one that asks for a write.
 pub region-altered-only : (o : COperation) (y : ℕ) (region value buffer : List ℕ)
     → (stepRegion o y region value buffer ≡ region) ⊎ (stepNumbers o y region value buffer .request .kind ≡ 2)
 region-altered-only o y region value buffer = region-altered o y region value buffer
 
--- And that step alters just the bytes that are to be written: "the rest stays as last read".
+-- R8.6: and that step alters just the bytes that are to be written: the rest stays as it was.
 pub rest-stays : (o : COperation) (y : ℕ) (region value buffer : List ℕ) → stepNumbers o y region value buffer .request .kind ≡ 2
     → let q = stepNumbers o y region value buffer .request in
     let region′ = stepRegion o y region value buffer in
     (length region′ ≡ length region) × (take (q .from) region′ ≡ take (q .from) region) × (drop (q .to) region′ ≡ drop (q .to) region)
 rest-stays o y region value buffer e = rest-left o y region value buffer e
 
--- Get's buffer is altered by no step but the one of a get's lookup that answers Complete, BufferTooSmall or InvalidCheckSum.
+-- R8.7: get's buffer is altered by no step but the one of a get's lookup that answers Complete, BufferTooSmall or InvalidCheckSum.
 pub buffer-altered-only : (o : COperation) (y : ℕ) (region value buffer : List ℕ)
     → (stepBuffer o y region value buffer ≡ buffer) ⊎ ((o .next ≡ 1) × (o .aim ≡ 1) × ReadsNumbers (stepNumbers o y region value buffer .request))
 buffer-altered-only o y region value buffer = buffer-altered o y region value buffer
 
--- ""Not ready" repeats the request and alters nothing": where a step has asked for a service, one with the reply 2 on the numbers that it handed back,
--- with buffers of the right lengths and any bytes, hands back these numbers and that request again.
+-- R8.5: "not ready" repeats the request and alters nothing: where a step has asked for a service, one with the reply 2 on the numbers that it handed
+-- back, with buffers of the right lengths and any bytes, hands back these numbers and that request again.
 pub not-ready-repeats : (o : COperation) (y : ℕ) (region value buffer : List ℕ) → (stepNumbers o y region value buffer .request .kind ≡ 4 → ⊥)
     → (region′ value′ buffer′ : List ℕ) → length region′ ≡ o .s → (o .lent ≡ 1 → length value′ ≡ o .len) → (o .lent ≡ 2 → length buffer′ ≡ o .len)
     → let t = stepNumbers o y region value buffer in
@@ -81,17 +82,17 @@ pub not-ready-repeats : (o : COperation) (y : ℕ) (region value buffer : List �
 not-ready-repeats o y region value buffer asks region′ value′ buffer′ long lends room =
     asked-again o y region value buffer region′ value′ buffer′ long lends room asks
 
--- "Show that any pair of results allowed for one input is identical": of each export, what it answers, and what it leaves in the bytes that it was lent
--- to alter, as its contract allows it (stilefray, Allows: the contracts cite these names).
+-- For one input there is one result: of each export, what it answers, and what it leaves in the bytes that it was lent to alter, as its contract
+-- allows it (stilefray, Allows: the contracts cite these names).
 
--- A contract that says what a result is allows no other.
+-- R7.5: a contract that says what a result is allows no other.
 only-one : {A : Type 0} {right a a′ : A} → a ≡ right → a′ ≡ right → a ≡ a′
 only-one p p′ = p ∙ sym p′
 
 only-two : {answer a a′ : CAnswer} {left b b′ : List ℕ} → (a ≡ answer) × (b ≡ left) → (a′ ≡ answer) × (b′ ≡ left) → (a ≡ a′) × (b ≡ b′)
 only-two (p, q) (p′, q′) = (only-one p p′, only-one q q′)
 
--- The one-call form: the answer, and get's buffer or the image at exit.
+-- R7.5: the one-call form: the answer, and get's buffer or the image at exit.
 module _ (image : List ℕ) (s n : ℕ) {a a′ : CAnswer} {b b′ : List ℕ} where
   pub get-key-only-one : (key : ℕ) (buffer : List ℕ) → GetKeyAllows image s n key buffer a b → GetKeyAllows image s n key buffer a′ b′ → (a ≡ a′) × (b ≡ b′)
   get-key-only-one key buffer = only-two
@@ -111,7 +112,7 @@ module _ (image : List ℕ) (s n : ℕ) {a a′ : CAnswer} {b b′ : List ℕ} w
   pub initialise-only-one : (key : ℕ) → InitialiseAllows image s n key a b → InitialiseAllows image s n key a′ b′ → (a ≡ a′) × (b ≡ b′)
   initialise-only-one key = only-two
 
--- The stepped form's starts: a refusal's number and the numbers of a running operation.
+-- R7.5: the stepped form's starts: a refusal's number and the numbers of a running operation.
 module _ (s n : ℕ) {a a′ : CStart} where
   pub start-get-only-one : (key capacity : ℕ) → StartGetAllows s n key capacity a → StartGetAllows s n key capacity a′ → a ≡ a′
   start-get-only-one key capacity = only-one
@@ -131,13 +132,13 @@ module _ (s n : ℕ) {a a′ : CStart} where
   pub start-initialise-only-one : (key : ℕ) → StartInitialiseAllows s n key a → StartInitialiseAllows s n key a′ → a ≡ a′
   start-initialise-only-one key = only-one
 
--- A step: its numbers, and region buffer and buffer at exit.
+-- R7.5: a step: its numbers, and region buffer and buffer at exit.
 pub step-only-one : (o : COperation) (y : ℕ) (region value buffer : List ℕ) {t t′ : CStepped} {r r′ b b′ : List ℕ}
     → StepAllows o y region value buffer t r b
     → StepAllows o y region value buffer t′ r′ b′
     → (t ≡ t′) × (r ≡ r′) × (b ≡ b′)
 step-only-one o y region value buffer (p, q, u) (p′, q′, u′) = (only-one p p′, only-one q q′, only-one u u′)
 
--- The checksum alone.
+-- R7.5: the checksum alone.
 pub checksum-only-one : (bytes : List ℕ) {a a′ : ℕ} → ChecksumAllows bytes a → ChecksumAllows bytes a′ → a ≡ a′
 checksum-only-one bytes = only-one

@@ -7,18 +7,18 @@ use Rattle.running.specs.declared.Reply.{Reply}
 use Rattle.running.specs.declared.Wait.{Wait}
 use Rattle.running.specs.Waits.{waitOf}
 
--- "Bytes to write lie in the buffer at their own place in the region; the rest stays as last read."
+-- R8.6: the bytes to write lie in the region buffer at their own place in the region, and the rest stays as it was.
 abbrev pub laidFor : ℕ → List ℕ → Wait → List ℕ → List ℕ
 laidFor key value Wait.Begin region = region
 laidFor key value (Wait.Read r) region = region
 laidFor key value (Wait.Edit e) region = laidIn key value e region
 laidFor key value (Wait.Over answer) region = region
 
--- what the operation waits to have written; "The value lent at the step that asks for the write is the one written."
+-- R8.6: what the operation waits to have written, with the value that is lent at this step.
 abbrev pub laid : Op → List ℕ → List ℕ → List ℕ
 laid op region value = laidFor (op .key) (valueOf (op .lent) value) (waitOf op) region
 
--- "Not ready" alters nothing.
+-- R8.5: "not ready" alters nothing; with any other reply the write that is then asked for is laid (R8.6).
 abbrev pub laidOn : Reply → Op → List ℕ → List ℕ → List ℕ
 laidOn Reply.Begin op region value = laid op region value
 laidOn Reply.Done op region value = laid op region value

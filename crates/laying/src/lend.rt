@@ -65,7 +65,7 @@ fn lay(op: Op, region: &mut [u8], value: &[u8])
     lay_edit(op.key, lent, edit, op.n, region, value);
 }
 
-// "Not ready" alters nothing, and a failed service ends the operation.
+// R8.5: "not ready" alters nothing, and a failed service ends the operation.
 pub fn lay_on(reply: Reply, op: Op, region: &mut [u8], value: &[u8])
     requires { ⌜ Ruled op × (length (now region) ≡ op .s) × (length (valueOf (op .lent) (now value)) ≡ valueLent (op .lent)) ⌝ }
     ensures { λ _. ⌜ now (region .exit) ≡ laidOn reply op (now (region .entry)) (now (value .entry)) ⌝ }

@@ -19,7 +19,8 @@ use Rattle.replies.proofs.Answered.{answerIn, answer-back, requestIn, request-b
 use Rattle.numbers.proofs.Own.{own, no-layout}
 use Rattle.numbers.proofs.Standing.{Standing, runs, breaks, ended, stood}
 
--- The numbers of an operation that keeps the rule, waits with no more than one edit or a run of erases and has something left to do stand for that operation.
+-- R12.5: the numbers of an operation that keeps the written rule, waits with no more than one edit or a run of erases and has something left to do
+-- stand for that operation.
 pub unpacks-packed : (op : Op) → rule op ≡ true → few (op .plan .edits) ≡ true → over (op .plan) ≡ false → unpacked (packed op) ≡ KnownOp.Known op
 unpacks-packed op r h v = go (stood op h)
   where
@@ -28,11 +29,11 @@ unpacks-packed op r h v = go (stood op h)
     go (breaks _ e _) = absurd (true≢false (sym r ∙ e))
     go (ended _ e _) = absurd (true≢false (sym e ∙ v))
 
--- Numbers that stand for an operation are just its own: with anything more in them they stand for nothing.
+-- R12.5: numbers that stand for an operation are just its own: with anything more in them they stand for nothing.
 pub own-numbers-only : (o : COperation) (op : Op) → unpacked o ≡ KnownOp.Known op → o ≡ packed op
 own-numbers-only = own
 
--- The number of a reply stands for that reply.
+-- R12.3: the number of a reply stands for that reply.
 pub known-number : (y : Reply) → knownReply (replyNumber y) ≡ KnownReply.Known y
 unfolding knownReply
 known-number Reply.Begin = refl
@@ -40,33 +41,33 @@ known-number Reply.Done = refl
 known-number Reply.NotReady = refl
 known-number Reply.Failed = refl
 
--- Numbers of another layout stand for nothing.
+-- R12.5: numbers of another layout stand for nothing.
 pub other-layout : (o : COperation) → (o .layout ≡ 8 → ⊥) → unpacked o ≡ KnownOp.Unknown
 other-layout = no-layout
 
--- What a refused start hands out is no running operation.
+-- R12.6: what a refused start hands out is no running operation.
 pub nothing-runs : unpacked noOperation ≡ KnownOp.Unknown
 unfolding unpacked standing
 nothing-runs = refl
 
--- The refusal's number in an answer is the one of the table "When the store says no", and 0 where the answer is no refusal.
+-- R12.1: the refusal's number in an answer is its own, k for R6.k, and 0 where the answer is no refusal.
 pub refusal-numbers : (answer : Answer) → answerNumbers answer .refusal ≡ refusal answer
 refusal-numbers (Complete len) = refl
 refusal-numbers Written = refl
 refusal-numbers (Freed bytes) = refl
 refusal-numbers (Refused w) = refl
 
--- The value in an answer is the one that the answer gives, and 0 where it gives none.
+-- R12.1: the value in an answer is the one that the answer carries, and 0 where it carries none.
 pub value-numbers : (answer : Answer) → answerNumbers answer .value ≡ getD (values answer) 0 0
 value-numbers (Complete len) = refl
 value-numbers Written = refl
 value-numbers (Freed bytes) = refl
 value-numbers (Refused w) = refl
 
--- Two answers with the same numbers are the same answer.
+-- R12.1: two answers with the same numbers are the same answer.
 pub one-answer : (a b : Answer) → answerNumbers a ≡ answerNumbers b → a ≡ b
 one-answer a b e = sym (answer-back a) ∙ ap answerIn e ∙ answer-back b
 
--- Two requests with the same numbers are the same request.
+-- R12.2: two requests with the same numbers are the same request.
 pub one-request : (a b : Request) → requestNumbers a ≡ requestNumbers b → a ≡ b
 one-request a b e = sym (request-back a) ∙ ap requestIn e ∙ request-back b

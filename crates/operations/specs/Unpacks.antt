@@ -19,13 +19,15 @@ use Rattle.operations.specs.declared.unpacks.KnownReply.{KnownReply}
 
 -- What the numbers that are used say, each read as the last kind where it is the number of none.
 
+-- R12.4: `lent` and `len`: nothing is lent, a value or a buffer of so many bytes.
 abbrev pub lentIn : ℕ → ℕ → Lent
 lentIn lent len = cond (eqb lent 0) Lent.Nothing (cond (eqb lent 1) (Lent.Value len) (Lent.Buffer len))
 
--- the record that a removal makes dead
+-- R12.4: `at`, `size`, `version`, `flags` and `found`: the record that a removal makes dead.
 abbrev pub recordIn : COperation → Record
 recordIn o = record { at = o .at; len = o .size; version = o .version; flags = o .flags; key = o .found }
 
+-- R12.4: `edit`: what is still to write or erase.
 abbrev pub editsIn : COperation → Edits
 editsIn o =
     cond (eqb (o .edit) 0) Edits.Nil
@@ -35,6 +37,7 @@ editsIn o =
     (cond (eqb (o .edit) 4) (Edits.One (Edit.Erase (o .region)))
     (Edits.Erases (o .region) (o .at))))))
 
+-- R12.4: `aim`: what the lookup is for.
 abbrev pub aimIn : ℕ → Aim
 aimIn aim =
     cond (eqb aim 1) Aim.Get
@@ -43,9 +46,11 @@ aimIn aim =
     (cond (eqb aim 4) (Aim.Remove Removal.Zeroise)
     Aim.Initialise)))
 
+-- R12.4: `tag`, `b` and `c`: the room that append's lookup has gathered (R5.4), none, not blank or blank.
 abbrev pub gatheredIn : ℕ → ℕ → ℕ → Room
 gatheredIn tag r o = cond (eqb tag 0) Room.Nowhere (Room.At r o (eqb tag 2))
 
+-- R12.4: `next`: what follows, a lookup, collect's next region, or an answer.
 abbrev pub nextIn : COperation → Then
 nextIn o =
     cond (eqb (o .next) 1) (Then.Seek (aimIn (o .aim)) (o .a) (withRoom (gatheredIn (o .tag) (o .b) (o .c)) unseen))
@@ -54,6 +59,7 @@ nextIn o =
     (cond (eqb (o .next) 4) (Then.Ends Written)
     (Then.Ends (Freed (o .a))))))
 
+-- R12.4: the operation that all twenty numbers say.
 unfoldable pub readAs : COperation → Op
 readAs o = record {
   s = o .s;
@@ -66,16 +72,19 @@ readAs o = record {
 
 -- Whether they are the numbers of what was read, and 0 where that has none. `own-numbers-only` and `unpacks-packed` say that these are the right tests.
 
+-- R12.5: `fresh` is one that the header lists.
 abbrev pub ownFresh : ℕ → Bool
 ownFresh fresh = cond (eqb fresh 1) true (eqb fresh 0)
 
+-- R12.5: `lent` is one that the header lists, and `len` is 0 where nothing is lent.
 abbrev pub ownLent : ℕ → ℕ → Bool
 ownLent lent len = cond (eqb lent 0) (eqb len 0) (cond (eqb lent 1) true (eqb lent 2))
 
--- no record is in an edit's numbers
+-- R12.5: no record is in an edit's numbers: those that only a removal uses are 0.
 abbrev pub bare : COperation → Bool
 bare o = eqb (o .size) 0 && (eqb (o .found) 0 && (eqb (o .version) 0 && eqb (o .flags) 0))
 
+-- R12.5: `edit` is one that the header lists, and those of its numbers that it does not use are 0.
 abbrev pub ownEdit : COperation → Bool
 ownEdit o =
     cond (eqb (o .edit) 0) (eqb (o .region) 0 && (eqb (o .at) 0 && bare o))
@@ -85,23 +94,27 @@ ownEdit o =
     (cond (eqb (o .edit) 4) (eqb (o .at) 0 && bare o)
     (eqb (o .edit) 5 && bare o)))))
 
+-- R12.5: `aim` is one that the header lists.
 abbrev pub ownAim : ℕ → Bool
 ownAim aim = cond (eqb aim 1) true (cond (eqb aim 2) true (cond (eqb aim 3) true (cond (eqb aim 4) true (eqb aim 5))))
 
+-- R12.5: `tag` is one that the header lists, and without room gathered its region and place are 0.
 abbrev pub ownGathered : ℕ → ℕ → ℕ → Bool
 ownGathered tag r o = cond (eqb tag 0) (eqb r 0 && eqb o 0) (cond (eqb tag 2) true (eqb tag 1))
 
--- no seek is in the numbers of what follows
+-- R12.5: no lookup is in the numbers of what follows: those that only a lookup uses are 0.
 abbrev pub plain : COperation → Bool
 plain o = eqb (o .aim) 0 && (eqb (o .tag) 0 && eqb (o .c) 0)
 
--- an edit is left to do: an answer alone is nothing that runs
+-- R12.5: something is left to write or erase: an answer alone is nothing that runs.
 abbrev pub leftIn : COperation → Bool
 leftIn o = cond (eqb (o .edit) 0) false (cond (eqb (o .edit) 5) (ltb (o .region) (o .at)) true)
 
+-- R12.5: an answer that is next has something to write or erase before it, and the numbers that it does not use are 0.
 abbrev pub ownEnd : COperation → Bool
 ownEnd o = plain o && (eqb (o .b) 0 && leftIn o)
 
+-- R12.5: `next` is 1 to 5, since 0 and 6 are nothing that runs, and those of its numbers that it does not use are 0.
 abbrev pub ownNext : COperation → Bool
 ownNext o =
     cond (eqb (o .next) 1) (ownAim (o .aim) && ownGathered (o .tag) (o .b) (o .c))
@@ -110,25 +123,28 @@ ownNext o =
     (cond (eqb (o .next) 4) (eqb (o .a) 0 && ownEnd o)
     (eqb (o .next) 5 && ownEnd o))))
 
--- 8 is the number of this layout.
+-- R12.5: numbers stand for an operation: the layout is 8, each kind is one that the header lists, what is not used is 0, and an answer that is next
+-- has something to write or erase before it.
 unfoldable pub standing : COperation → Bool
 standing o = eqb (o .layout) 8 && (ownNext o && (ownFresh (o .fresh) && (ownLent (o .lent) (o .len) && ownEdit o)))
 
--- The running operation that numbers stand for, where they stand for any: with anything more in them they stand for none.
+-- R12.5: the operation that numbers stand for, where they stand for any: with anything more in them they stand for none.
 pub data KnownOp : Type 0 where
   Known : Op → KnownOp
   Unknown : KnownOp
 
+-- R12.5: which operation numbers stand for.
 unfoldable pub unpacked : COperation → KnownOp
 unpacked o = cond (standing o) (KnownOp.Known (readAs o)) KnownOp.Unknown
 
--- "the host's reply (begin, done, not ready, failed)"
+-- R12.3: a reply: 0 begin, 1 done, 2 not ready, 3 failed.
 abbrev pub replyNumber : Reply → ℕ
 replyNumber Reply.Begin = 0
 replyNumber Reply.Done = 1
 replyNumber Reply.NotReady = 2
 replyNumber Reply.Failed = 3
 
+-- R12.3: which reply a number stands for: any but these four for none (R6.11).
 unfoldable pub knownReply : ℕ → KnownReply
 knownReply y =
     cond (eqb y 0) (KnownReply.Known Reply.Begin)
@@ -137,7 +153,7 @@ knownReply y =
     (cond (eqb y 3) (KnownReply.Known Reply.Failed)
     KnownReply.Unknown)))
 
--- no operation: numbers that stand for nothing
+-- R12.6: twenty zeros, which a start that refuses hands out. They stand for no operation.
 abbrev pub noOperation : COperation
 noOperation = record {
   layout = 0;

@@ -9,7 +9,7 @@ use Rattle.plans.specs.Writes.{first}
 use Rattle.plans.specs.Fits.{planFits}
 use Rattle.running.specs.declared.Op.{Op}
 
--- A fresh operation has a service to ask for: it does not begin with an answer.
+-- R8.10: a fresh operation has a service to ask for: it does not begin with an answer.
 abbrev pub freshFits : Bool → First → Then → Bool
 freshFits false f next = true
 freshFits true (First.Do e) next = true
@@ -18,7 +18,7 @@ freshFits true First.Nothing (Then.Seek aim i seen) = true
 freshFits true First.Nothing (Then.Sweep r k) = true
 freshFits true First.Nothing (Then.Gives r x anew) = true
 
--- the rule, part by part
+-- R8.10: the written rule, part by part.
 pub record Ruled (op : Op) : Type 0 where
   pub shape : Shape (op .s) (op .n)
   pub key-good : allowedKey (op .key) ≡ true

@@ -21,7 +21,7 @@ use Rattle.running.specs.declared.Request.{Request}
 use Rattle.running.specs.Waits.{requestEdit}
 use Rattle.runs.specs.Services.{edits}
 
--- Append: "one write", of the whole record, at its place in the buffer and in the image; or none, where it is refused.
+-- R9.2: append's one write, of the whole record, at its place in the buffer and in the image; or none, where it is refused.
 pub append-asks : (s len : ℕ) (looked : Looked) → (edits s len (appendPlan looked) ≡ [])
     ⊎ ((r : ℕ) × (o : ℕ) × (edits s len (appendPlan looked) ≡ Request.Write o (o + recordLength len) (r * s + o) ∷ []))
 append-asks s len (Looked.Live r x) = inl refl
@@ -33,16 +33,16 @@ append-asks s len (Looked.Through seen) = by-place (λ (p : Plan). (edits s len 
     go (Room.At r o false) = inl refl
     go (Room.At r o true) = inr (r, o, refl)
 
--- Invalidate: one write of byte 1 of the record.
+-- R9.3: invalidate's one write, of byte 1 of the record.
 pub invalidate-asks : (s r : ℕ) (x : Record)
     → edits s 0 (removePlan Removal.Invalidate (Hit.Live r x)) ≡ Request.Write (x .at + 1) (x .at + 1 + 1) (r * s + (x .at + 1)) ∷ []
 invalidate-asks s r x = refl
 
--- Zeroise: one write over the whole record.
+-- R9.3: zeroise's one write, over the whole record.
 pub zeroise-asks : (s r : ℕ) (x : Record) → edits s 0 (removePlan Removal.Zeroise (Hit.Live r x)) ≡ Request.Write (x .at) (x .at + x .len) (r * s + x .at) ∷ []
 zeroise-asks s r x = λ i. Request.Write (add-zero (x .at) i) (add-zero (x .at) i + x .len) (r * s + add-zero (x .at) i) ∷ []
 
--- Initialise that must erase: "N erases in number order".
+-- R9.5: initialise that must erase: erases of all regions in number order.
 erases : (s r k : ℕ) → map (requestEdit s 0) (map Edit.Erase (numbers r k)) ≡ map Request.Erase (numbers r k)
 unfolding numbers
 erases s r zero = refl

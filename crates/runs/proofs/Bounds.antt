@@ -60,7 +60,7 @@ collect-bound s image (r ∷ rs) = go (verdict r (regionOf s image r)) refl (col
     go Verdict.Erase e a b = rw (collectServices, e) (omega arith)
     go (Verdict.Bad f o) e a b = rw (collectServices, e) (omega arith)
 
--- "then one write": the edits of a plan of append's, and of a removal's
+-- R9.2, R9.3: then one write: the edits of a plan of append's, and of a removal's
 place-one : (place : Room) → length (listed (placePlan place .edits)) ≤ 1
 place-one Room.Nowhere = omega arith
 place-one (Room.At r o false) = omega arith

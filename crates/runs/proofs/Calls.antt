@@ -1,4 +1,4 @@
--- Every call comes, by the services of document 01, to the answer, the image and the buffer of the one-call form.
+-- Every call comes, by its listed services, to the answer, the image and the buffer of the one-call form.
 -- Assumes nothing.
 use Prim.Native.Nat.{ℕ, zero, suc, _+_, _-_, _*_, _≤_}
 use native.Mathlib.Nat.{sub-zero}

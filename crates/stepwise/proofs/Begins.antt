@@ -83,7 +83,7 @@ check-is {c} {s} {n} (fine a) =
       says-false (ltb (largestValue edition) (valueLent (lentOf c))) (large-says c) (λ t. let l = a .not-large in omega arith),
     )
 
--- So a start refuses where one of the lines says so, and where none does it runs.
+-- So a start refuses where R6.1, R6.2 or R6.3 says so, and where none does it runs.
 pub refuses-when : (c : Call) (s n : ℕ) (w : Refusal) → (startOf c s n ≡ Start.Refused w) ↔ StartWhen s n c w
 refuses-when c s n w = (λ h. go (check c s n) (checked c s n) (sym (starts-so c s n) ∙ h), λ v. starts-so c s n ∙ ap (startedOr (freshOf c s n)) (check-is (refuses v)))
   where

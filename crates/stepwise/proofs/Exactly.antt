@@ -140,7 +140,7 @@ given-low n lent region p h = go (p .next) refl h
 
 -- A service that is done leads to another, or to an end that is no refusal of the stepped form.
 
--- an edit was done: "no refusal follows a write"
+-- an edit was done: no refusal stands behind a write (R8.10)
 write-low : (e : Edit) (t : Then) → rests (First.Do e) t ≡ true → endRefusal 0 t ≤ 10
 write-low e (Then.Ends answer) h = let z : refusal answer ≡ 0 = eqb-true _ _ h in omega arith
 write-low e (Then.Seek aim i seen) h = omega arith

@@ -1,4 +1,4 @@
--- Line 11 in words and the rule's test say the same: a call that fits is refused by none of its clauses, and one that does not by one of them.
+-- R6.11 in words and the test of a step's call say the same: a call that fits is refused by none of the clauses, and one that does not by one of them.
 -- Assumes nothing.
 use Prim.Native.Nat.{ℕ}
 use native.Mathlib.Omega.{arith}

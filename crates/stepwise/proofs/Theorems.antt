@@ -42,25 +42,27 @@ use Rattle.stepwise.proofs.Falls.{at-start, falls, rises-never, none-le
 
 -- Starts.
 
--- A start refuses exactly where one of the three lines says so: of S, N, the key and the length of the value alone.
+-- R7.2: a start refuses exactly where R6.1, R6.2 or R6.3 says so, in this order: of S, N, the key and the length of the value alone.
 pub start-refuses-exactly-when : (c : Call) (s n : ℕ) (w : Refusal) → (startOf c s n ≡ Start.Refused w) ↔ StartWhen s n c w
 start-refuses-exactly-when c s n w = refuses-when c s n w
 
--- Where none does, it hands out the fresh operation of the call, and only there.
+-- R8.2: where none does, it hands out the fresh operation of the call, and only there.
 pub start-runs-exactly-when : (c : Call) (s n : ℕ) (op : Op) → (startOf c s n ≡ Start.Runs op) ↔ (Allowed s n c × (op ≡ freshOf c s n))
 start-runs-exactly-when c s n op = runs-when c s n op
 
--- The rule.
+-- The written rule.
 
--- "the written rule which every one handed back by a start or a step keeps"
+-- R8.10: every operation that a start hands out keeps the written rule,
 pub start-keeps : (c : Call) (s n : ℕ) (op : Op) → startOf c s n ≡ Start.Runs op → rule op ≡ true
 start-keeps c s n op h = is-ruled op (start-ruled c s n h)
 
+-- R8.10: and so does what a step makes of one where the call fits,
 pub next-keeps : (op : Op) (y : Reply) (region value buffer : List ℕ) → fitsHere op y region value buffer ≡ true → rule (nextOp op y region) ≡ true
 next-keeps op y region value buffer h =
     let (k, long, _, _) = fits-ruled op y (length region) (length value) (length buffer) h in
     is-ruled _ (next-ruled op y region k long)
 
+-- R8.10, R8.11: and every one that a step hands back, of one that keeps it.
 pub step-keeps : (op : Op) (y : Reply) (region value buffer : List ℕ) → rule op ≡ true → rule (stepped op y region value buffer .op) ≡ true
 unfolding stepped
 step-keeps op y region value buffer k = go (fitsHere op y region value buffer) refl
@@ -72,54 +74,55 @@ step-keeps op y region value buffer k = go (fitsHere op y region value buffer) r
 
 -- What is asked for.
 
--- What a step asks for lies in the chip, of every operation, whether it keeps the rule or not: BadCall asks for nothing.
+-- R8.4: what a step asks for lies in the chip, of every operation, whether it keeps the written rule or not: BadCall asks for nothing.
 pub step-inside : (op : Op) (y : Reply) (region value buffer : List ℕ) → Inside (op .s) (op .n) (stepped op y region value buffer .request)
 step-inside op y region value buffer = steps-inside (steps op y region value buffer)
 
--- And what one that keeps the rule waits for.
+-- R8.4: and what one that keeps the written rule waits for.
 pub asks-inside : (op : Op) → rule op ≡ true → Inside (op .s) (op .n) (requestOf op)
 asks-inside op k = inside op (ruled op k)
 
--- A step whose call fits says what the operation that it hands back waits for.
+-- R8.3: a step whose call fits says what the operation that it hands back waits for.
 pub says-what-it-waits-for : (op : Op) (y : Reply) (region value buffer : List ℕ) → fitsHere op y region value buffer ≡ true
     → stepped op y region value buffer .request ≡ requestOf (stepped op y region value buffer .op)
 says-what-it-waits-for op y region value buffer h = says op y region value buffer h
 
--- Which operations ask for a write, and which for an erase: what any step of a call's operation says, after any replies and any lent bytes. Get,
--- append and the removals never ask for an erase.
+-- R9.1, R9.2, R9.3, R9.4, R9.5: which operations ask for a write, and which for an erase: what any step of a call's operation says, after any replies
+-- and any lent bytes. Get, append and the removals never ask for an erase.
 pub asks-only : (c : Call) (s n : ℕ) (op : Op) → startOf c s n ≡ Start.Runs op → (gs : List Given) (y : Reply) (region value buffer : List ℕ)
     → MayAsk s c (stepped (after op gs) y region value buffer .request)
 asks-only c s n op h gs y region value buffer = call-asks c s n op h gs y region value buffer
 
 -- What a step leaves in the lent buffers.
 
--- The region buffer is altered by no step but the one that asks for a write.
+-- R8.6: the region buffer is altered by no step but the one that asks for a write.
 pub region-altered-only : (op : Op) (y : Reply) (region value buffer : List ℕ)
     → (regionAfter op y region value buffer ≡ region)
     ⊎ ((a : ℕ) × (e : ℕ) × (p : ℕ) × (stepped op y region value buffer .request ≡ Request.Write a e p))
 region-altered-only op y region value buffer = steps-alter (steps op y region value buffer)
 
--- And that step alters just the bytes that are to be written: "the rest stays as last read".
+-- R8.6: and that step alters just the bytes that are to be written: the rest stays as it was.
 pub rest-stays : (op : Op) (y : Reply) (region value buffer : List ℕ) {a e p : ℕ} → stepped op y region value buffer .request ≡ Request.Write a e p
     → let region′ = regionAfter op y region value buffer in
     (length region′ ≡ length region) × (take a region′ ≡ take a region) × (drop e region′ ≡ drop e region)
 rest-stays op y region value buffer h = leaves-rest (steps-leave (steps op y region value buffer) h)
 
--- "The value lent at the step that asks for the write is the one written": of an append, whatever value any earlier step was lent. A step with "not
--- ready" repeats the request, and lays nothing.
+-- R8.6: the value lent at the step that asks for the write is the one written: of an append, whatever value any earlier step was lent. A step with
+-- "not ready" repeats the request, and lays nothing.
 pub lent-is-written : (key : ℕ) (named : List ℕ) (s n : ℕ) (op : Op) → startOf (append key named) s n ≡ Start.Runs op → (gs : List Given)
     → (y : Reply) → (y ≡ Reply.NotReady → ⊥) → (region value buffer : List ℕ) {a e p : ℕ} → stepped (after op gs) y region value buffer .request ≡ Request.Write a e p
     → take (e - a) (drop a (regionAfter (after op gs) y region value buffer)) ≡ recordBytes key value
 lent-is-written key named s n op h gs y w region value buffer asked = append-lays-lent key named s n op h gs y w region value buffer asked
 
--- Get's buffer is altered by no step but the one of a get that answers by the record which it found: Complete, BufferTooSmall or InvalidCheckSum.
+-- R8.7: get's buffer is altered by no step but the one of a get that answers by the record which it found: Complete, BufferTooSmall or
+-- InvalidCheckSum.
 pub buffer-altered-only : (op : Op) (y : Reply) (region value buffer : List ℕ)
     → (bufferAfter op y region value buffer ≡ buffer) ⊎ GetReads op (stepped op y region value buffer .request)
 buffer-altered-only op y region value buffer = steps-fill (steps op y region value buffer)
 
 -- Replies.
 
--- "BadCall leaves the running operation as it was", and all buffers.
+-- R6.11: BadCall leaves the running operation as it was, and all buffers.
 pub bad-call : (op : Op) (y : Reply) (region value buffer : List ℕ) → fitsHere op y region value buffer ≡ false
     → (stepped op y region value buffer ≡ record { op = op; request = Request.Answers (Refused Refusal.BadCall) })
     × (regionAfter op y region value buffer ≡ region)
@@ -127,7 +130,7 @@ pub bad-call : (op : Op) (y : Reply) (region value buffer : List ℕ) → fitsHe
 unfolding stepped regionAfter bufferAfter
 bad-call op y region value buffer h = (rw h, rw h, rw h)
 
--- ""Not ready" repeats the request and alters nothing."
+-- R8.5: "not ready": the step hands back the same operation and the same request, and alters nothing.
 pub not-ready : (op : Op) (region value buffer : List ℕ) → fitsHere op Reply.NotReady region value buffer ≡ true
     → (stepped op Reply.NotReady region value buffer ≡ record { op = op; request = requestOf op })
     × (regionAfter op Reply.NotReady region value buffer ≡ region)
@@ -137,7 +140,7 @@ not-ready op region value buffer h =
     let same : nextOp op Reply.NotReady region ≡ op = still-there op (fits-ruled op Reply.NotReady (length region) (length value) (length buffer) h .3) in
     (rw h (λ i. record { op = same i; request = requestOf (same i) }), rw h, rw h)
 
--- "FlashFailed ends the operation." "A refusal alters no byte of image or buffer".
+-- R6.12: FlashFailed ends the operation, and alters no buffer.
 pub flash-failed : (op : Op) (region value buffer : List ℕ) → fitsHere op Reply.Failed region value buffer ≡ true
     → (stepped op Reply.Failed region value buffer ≡ record { op = withPlan op (refuses Refusal.FlashFailed); request = Request.Answers (Refused Refusal.FlashFailed) })
     × (regionAfter op Reply.Failed region value buffer ≡ region)
@@ -145,73 +148,75 @@ pub flash-failed : (op : Op) (region value buffer : List ℕ) → fitsHere op Re
 unfolding stepped regionAfter bufferAfter
 flash-failed op region value buffer h = (rw h, rw h, rw h)
 
--- Where a service is asked for, every reply that says how it went fits, with buffers of the right lengths and any bytes: a failed one too, which is
--- then FlashFailed and never BadCall.
+-- R6.12: where a service is asked for, every reply that says how it went fits, with buffers of the right lengths and any bytes: a failed one too, which
+-- is then FlashFailed and never BadCall.
 pub reply-fits : (op : Op) (y : Reply) (region value buffer : List ℕ) → rule op ≡ true → asks (requestOf op) ≡ true → serves y ≡ true
     → length region ≡ op .s → LentRight (op .lent) value buffer → fitsHere op y region value buffer ≡ true
 reply-fits op y region value buffer k a f l t = fits op y region value buffer k a f l t
 
--- "Exactly when".
+-- Exactly when a step is refused.
 
--- The test that a step makes of its call, `fitsHere`, passes exactly when no clause of line 11 speaks of the call.
+-- R6.11: the test that a step makes of its call, `fitsHere`, passes exactly when none of the rule's clauses speaks of the call.
 pub fits-exactly-when : (op : Op) (y : Reply) (region value buffer : List ℕ) → (fitsHere op y region value buffer ≡ true) ↔ (Misfit op y region value buffer → ⊥)
 fits-exactly-when op y region value buffer = fits-when op y region value buffer
 
--- 11 BadCall, exactly when one of the clauses of its line says so.
+-- R6.11: BadCall, exactly when one of its clauses says so.
 pub bad-call-exactly-when : (op : Op) (y : Reply) (region value buffer : List ℕ)
     → (requestRefusal (stepped op y region value buffer .request) ≡ 11) ↔ Misfit op y region value buffer
 bad-call-exactly-when op y region value buffer = eleven-when op y region value buffer
 
--- 12 FlashFailed, exactly when "the host reports a failed service"; "11 before 12": where no clause of line 11 says so.
+-- R6.12: FlashFailed, exactly when the host says that the service failed, where no clause of R6.11 says BadCall: 11 comes before 12 (R7.2).
 pub flash-failed-exactly-when : (op : Op) (y : Reply) (region value buffer : List ℕ)
     → (requestRefusal (stepped op y region value buffer .request) ≡ 12) ↔ ((Misfit op y region value buffer → ⊥) × (y ≡ Reply.Failed))
 flash-failed-exactly-when op y region value buffer = twelve-when op y region value buffer
 
--- "Nothing [..] runs on", whatever the host: any bytes in the buffers at each step, and any replies.
+-- Nothing runs on, whatever the host: any bytes in the buffers at each step, and any replies.
 
--- A number of services still to come. At the start it is get's n, append's and the removals' n + 1, collect's 2 n, initialise's 3 n + 1,
+-- R9.6: a number of services still to come. At the start it is get's n, append's and the removals' n + 1, collect's 2 n, initialise's 3 n + 1,
 pub ahead-at-start : (c : Call) (s n : ℕ) (op : Op) → startOf c s n ≡ Start.Runs op → (ahead op ≡ most c n) × (ahead op ≤ 3 * n + 1)
 ahead-at-start c s n op h = at-start c s n op h
 
--- it falls with every "done" that is not BadCall,
+-- R9.6: it falls with every "done" that is not BadCall,
 pub falls-with-done : (op : Op) (region value buffer : List ℕ) → fitsHere op Reply.Done region value buffer ≡ true
     → suc (ahead (stepped op Reply.Done region value buffer .op)) ≤ ahead op
 falls-with-done op region value buffer h = falls op region value buffer h
 
--- never rises,
+-- R9.6: never rises,
 pub never-rises : (op : Op) (g : Given) → ahead (next op g) ≤ ahead op
 never-rises op g = rises-never op g
 
--- and is 0 only when the operation has answered, and always then.
+-- R9.6: and is 0 only when the operation has answered, and always then.
 pub none-ahead : (op : Op) → rule op ≡ true → (ahead op ≡ 0) ↔ ((op .fresh ≡ false) × ((answer : Answer) × (requestOf op ≡ Request.Answers answer)))
 none-ahead op k = none-left op k
 
--- So after any replies and any lent bytes at all, with mistakes among them, the services that were done and those still to come are no more than at
--- the start.
+-- R9.6: so after any replies and any lent bytes at all, with mistakes among them, the services that were done and those still to come are no more than
+-- at the start.
 pub nothing-runs-on : (c : Call) (s n : ℕ) (op : Op) → startOf c s n ≡ Start.Runs op → (gs : List Given) → taken op gs + ahead (after op gs) ≤ most c n
 nothing-runs-on c s n op h gs = taken-at-most c s n op h gs
 
--- And an operation ends, in the hands of a chip that lies about its reads, writes and erases too: begun, never told "begin" again, and lent buffers of
--- the right lengths with any bytes in them, it answers by the time that as many "done" were said as the number is at the start. (A host that is
--- never ready is asked for ever: that is the host's.)
+-- R13.3: and an operation ends, in the hands of a chip that lies about its reads, writes and erases too: begun, never told "begin" again, and lent
+-- buffers of the right lengths with any bytes in them, it answers by the time that as many "done" were said as the number is at the start. (A host that
+-- is never ready is asked for ever: that is the host's.)
 pub ends-whatever-the-host : (c : Call) (s n : ℕ) (op : Op) → startOf c s n ≡ Start.Runs op
     → (region value buffer : List ℕ) → length region ≡ s → LentRight (op .lent) value buffer
     → (gs : List Given) → Every (Fair op) gs → most c n ≤ dones gs → Answers (stepped op Reply.Begin region value buffer .op) gs
 ends-whatever-the-host c s n op h region value buffer long lent gs fair enough = ends-always c s n op h region value buffer long lent gs fair enough
 
--- "Show that any pair of results allowed for one input is identical": a step's result, region buffer and buffer at exit, and what a start gives.
+-- For one input there is one result: a step's result, region buffer and buffer at exit, and what a start gives.
 
--- What step's contract allows.
+-- R8.3: what step's contract allows.
 abbrev StepAllows : Op → Reply → List ℕ → List ℕ → List ℕ → Stepped → List ℕ → List ℕ → Type 0
 StepAllows op y region value buffer t r b =
     (t ≡ stepped op y region value buffer) × (r ≡ regionAfter op y region value buffer) × (b ≡ bufferAfter op y region value buffer)
 
+-- R7.5: one result of a step.
 pub step-only-one : (op : Op) (y : Reply) (region value buffer : List ℕ) {t t′ : Stepped} {r r′ b b′ : List ℕ}
     → StepAllows op y region value buffer t r b
     → StepAllows op y region value buffer t′ r′ b′
     → (t ≡ t′) × (r ≡ r′) × (b ≡ b′)
 step-only-one op y region value buffer (p, q, u) (p′, q′, u′) = (p ∙ sym p′, q ∙ sym q′, u ∙ sym u′)
 
+-- R7.5: one result of each start.
 only-one : {start a a′ : Start} → a ≡ start → a′ ≡ start → a ≡ a′
 only-one p p′ = p ∙ sym p′
 

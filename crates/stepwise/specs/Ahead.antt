@@ -18,46 +18,47 @@ use Rattle.rule.specs.Rule.{serves}
 use Rattle.steps.specs.Step.{fitsHere, stepped}
 use Rattle.stepwise.specs.Misfit.{LentRight}
 
--- What a host gives to a step: its reply, and what it lends.
+-- R8.3: what a host gives to a step: its reply, and what it lends.
 pub record Given : Type 0 where
   pub reply : Reply
   pub region : List ℕ
   pub value : List ℕ
   pub buffer : List ℕ
 
--- what a step makes of the operation
+-- R8.3: what a step makes of the operation.
 abbrev pub next : Op → Given → Op
 next op g = stepped op (g .reply) (g .region) (g .value) (g .buffer) .op
 
--- and steps, one after the other
+-- R13.3: and steps, one after the other, whatever the host replies and lends.
 unfoldable pub after : Op → List Given → Op
 after op [] = op
 after op (g ∷ gs) = after (next op g) gs
 
--- The lengths are right and the reply says how a service went; which bytes are lent is open.
+-- R13.3: the lengths are right and the reply says how a service went; which bytes are lent is open.
 pub record Fair (op : Op) (g : Given) : Type 0 where
   pub region-long : length (g .region) ≡ op .s
   pub lent-right : LentRight (op .lent) (g .value) (g .buffer)
   pub replies : serves (g .reply) ≡ true
 
--- in how many of them the host says that a service is done
+-- R9.6: the host says that a service is done.
 abbrev pub isDone : Reply → Bool
 isDone Reply.Begin = false
 isDone Reply.Done = true
 isDone Reply.NotReady = false
 isDone Reply.Failed = false
 
+-- R9.6: in how many steps it says so.
 unfoldable pub dones : List Given → ℕ
 dones [] = 0
 dones (g ∷ gs) = cond (isDone (g .reply)) (suc (dones gs)) (dones gs)
 
--- and in how many of these the step takes it, since the call fits
+-- R9.6: in how many of these the step takes it, since the call fits and is no BadCall.
 unfoldable pub taken : Op → List Given → ℕ
 taken op [] = 0
 taken op (g ∷ gs) =
     cond (isDone (g .reply) && fitsHere op (g .reply) (g .region) (g .value) (g .buffer)) (suc (taken (next op g) gs)) (taken (next op g) gs)
 
--- One of the steps answers, and not that the call does not fit.
+-- R9.6: the operation has answered: one of the steps answers, and not BadCall.
 pub data Answers : Op → List Given → Type 0 where
   now : {op : Op} {g : Given} {gs : List Given} {answer : Answer}
       → stepped op (g .reply) (g .region) (g .value) (g .buffer) .request ≡ Request.Answers answer → (refusal answer ≡ 11 → ⊥) → Answers op (g ∷ gs)
@@ -65,27 +66,29 @@ pub data Answers : Op → List Given → Type 0 where
 
 -- The services still to come, at most.
 
--- behind a lookup's reads: one write of append's or a removal's; initialise's erases, and append's services then
+-- R9.2, R9.3, R9.5: behind a lookup's reads: one write of append's or a removal's; initialise's erases, and append's services then.
 abbrev pub behind : Aim → ℕ → ℕ
 behind Aim.Get n = 0
 behind Aim.Append n = 1
 behind (Aim.Remove how) n = 1
 behind Aim.Initialise n = n + (n + 1)
 
--- behind the edits: the regions that are left to read, a sweep's twice, since each may be erased too
+-- R9.6: behind the edits: the regions that are left to read, a sweep's twice, since each may be erased too.
 abbrev pub aheadNext : ℕ → Then → ℕ
 aheadNext n (Then.Ends answer) = 0
 aheadNext n (Then.Seek aim i seen) = n - i + behind aim n
 aheadNext n (Then.Sweep r k) = 2 * (n - r)
 aheadNext n (Then.Gives r x anew) = cond anew (behind Aim.Initialise n) 0
 
+-- R9.6: the edits that are left, and what comes behind them.
 abbrev pub aheadPlan : ℕ → Plan → ℕ
 aheadPlan n p = length (listed (p .edits)) + aheadNext n (p .next)
 
+-- R9.6: the same of an operation.
 abbrev pub ahead : Op → ℕ
 ahead op = aheadPlan (op .n) (op .plan)
 
--- how many they are at the start: "a lookup N at most", "2N at most", "3N+1 at most"
+-- R9.6: how many they are at the start: N for get, N + 1 for append and the removals, 2N for collect, 3N + 1 for initialise.
 abbrev pub most : Call → ℕ → ℕ
 most (get key buffer) n = n
 most (append key value) n = n + 1

@@ -1,1 +1,1 @@
-// No code: what a start and one step give, ask for and leave, in the words of the table, and what any host at all can count on.
+// No code: what a start and one step give, ask for and leave, in the words of the rules, and what any host at all can count on.

@@ -26,7 +26,7 @@ use Rattle.stilefray.specs.Stepped.{badCall, packedStep, stepNumbers, st
 use Rattle.stilefray.proofs.Called.{Steps, no-op, no-reply, misfit, fit, misfits, waits}
 use Rattle.stilefray.proofs.Few.{next-few}
 
--- Every operation that a start hands out has numbers: no edit is left to do.
+-- R12.6: every operation that a start hands out has numbers: no edit is left to do.
 pub start-few : ((aim : Aim) (s n key : ℕ) (lent : Lent) → startFew (lookStarted aim s n key lent) ≡ true) × ((s n : ℕ) → startFew (collectStarted s n) ≡ true)
 start-few = ((λ aim s n key lent. go _ refl (startRefusal s n key (valueLent lent))), λ s n. go _ refl (startRefusal s n 1 0))
   where
@@ -34,7 +34,7 @@ start-few = ((λ aim s n key lent. go _ refl (startRefusal s n key (valueLent le
     go op e Check.Fine = e
     go op e (Check.Refused w) = refl
 
--- And so has what a step makes of one.
+-- R12.7: and so has what a step makes of one.
 pub step-few : (op : Op) (y : Reply) (region value buffer : List ℕ) → few (op .plan .edits) ≡ true → few (stepped op y region value buffer .op .plan .edits) ≡ true
 unfolding stepped
 step-few op y region value buffer h = go (fitsHere op y region value buffer) refl
@@ -43,7 +43,8 @@ step-few op y region value buffer h = go (fitsHere op y region value buffer) ref
     go true g = rw g (next-few op y region h)
     go false g = rw g h
 
--- A step on the numbers of such an operation is the step of the operation, in numbers, and leaves the same bytes: a run through numbers is a run of steps.
+-- R12.7: a step on the numbers of such an operation is the step of the operation, in numbers, and leaves the same bytes: a run through numbers is a run
+-- of steps.
 pub step-carries : (op : Op) → few (op .plan .edits) ≡ true → (y : Reply) (region value buffer : List ℕ)
     → (stepNumbers (packed op) (replyNumber y) region value buffer ≡ packedStep (stepped op y region value buffer))
     × (stepRegion (packed op) (replyNumber y) region value buffer ≡ regionAfter op y region value buffer)
@@ -59,18 +60,19 @@ step-carries op h y region value buffer = go (stood op h)
     go (breaks e _ f) = misfits _ op y region value buffer (f y _ _ _) (no-op o _ region value buffer e)
     go (ended e _ f) = misfits _ op y region value buffer (f y _ _ _) (no-op o _ region value buffer e)
 
--- "BadCall leaves the running operation as it was": numbers that stand for no running operation, or for no reply, come back as they were, and region and buffer too.
+-- R6.11: BadCall leaves the running operation as it was: numbers that stand for no running operation, or for no reply, come back as they were, and
+-- region and buffer too.
 pub bad-call-keeps : (o : COperation) (y : ℕ) (region value buffer : List ℕ) → (unpacked o ≡ KnownOp.Unknown) ⊎ (knownReply y ≡ KnownReply.Unknown)
     → (stepNumbers o y region value buffer ≡ badCall o) × (stepRegion o y region value buffer ≡ region) × (stepBuffer o y region value buffer ≡ buffer)
 bad-call-keeps o y region value buffer = ⊎-elim (no-op o y region value buffer) (no-reply o y region value buffer)
 
--- A call that does not fit what its numbers stand for keeps all of them too.
+-- R6.11: a call that does not fit what its numbers stand for keeps all of them too.
 pub misfit-keeps : (o : COperation) (y : ℕ) (region value buffer : List ℕ) (op : Op) (said : Reply)
     → unpacked o ≡ KnownOp.Known op → knownReply y ≡ KnownReply.Known said → fitsHere op said region value buffer ≡ false
     → (stepNumbers o y region value buffer ≡ badCall o) × (stepRegion o y region value buffer ≡ region) × (stepBuffer o y region value buffer ≡ buffer)
 misfit-keeps = misfit
 
--- "Not ready" [..] alters nothing: whatever the numbers, they come back as they were, and region and buffer too.
+-- R8.5: "not ready" alters nothing: whatever the numbers, they come back as they were, and region and buffer too.
 pub not-ready-keeps : (o : COperation) (region value buffer : List ℕ)
     → (stepNumbers o (replyNumber Reply.NotReady) region value buffer .op ≡ o)
     × (stepRegion o (replyNumber Reply.NotReady) region value buffer ≡ region) × (stepBuffer o (replyNumber Reply.NotReady) region value buffer ≡ buffer)
