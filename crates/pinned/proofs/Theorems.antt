@@ -34,7 +34,7 @@ use Rattle.plans.specs.declared.Answer.the-variants.{Complete, Written, Freed, 
 use Rattle.plans.specs.Answers.{refusal}
 use Rattle.planning.specs.Planning.{placePlan, appendPlan}
 use Rattle.store.specs.Write.{Done, appendOf, removeOf, initialiseOf}
-use Rattle.store.specs.Read.{getOf}
+use Rattle.store.specs.Read.{Got, getOf}
 use Rattle.store.specs.Collect.{collectOf}
 use Rattle.store.specs.Call.{Call, get, append, remove, collect, initialise, outcome, answerOf, imageAfter}
 use Rattle.pinned.specs.When.{Reads, NotBad, FirstBad, When, Succeeds}
@@ -215,10 +215,14 @@ freed-is-counted image s n bytes h =
 
 -- Initialise, by the answer of a get of the main key into an empty buffer.
 
--- R5.9: if that is Complete, so is initialise, and nothing changes.
-pub initialise-complete : (key : ℕ) (image : List ℕ) (s n len : ℕ) → answerOf (get key []) image s n ≡ Complete len
-    → outcome (initialise key) image s n ≡ record { answer = Complete len; image = image }
-initialise-complete key image s n len h = initialise-left image s n key (ap refusal h) ∙ ap (λ (a : Answer). record { answer = a; image = image }) h
+-- R5.9, R7.1: if that is Complete, so is initialise, with 0, and nothing changes.
+pub initialise-complete : (key : ℕ) (image : List ℕ) (s n : ℕ) → refusal (answerOf (get key []) image s n) ≡ 0
+    → outcome (initialise key) image s n ≡ record { answer = Complete 0; image = image }
+initialise-complete key image s n h =
+    let (reads, (r, x, live, fits, sum)) = get-answers key [] image s n h in
+    let e : valueLength x ≡ 0 = omega (arith, fits) in
+    let got = ap (λ (g : Got). g .answer) (get-complete key [] image s n r x reads live fits sum) ∙ ap Complete e in
+    initialise-left image s n key h ∙ ap (λ (a : Answer). record { answer = a; image = image }) got
 
 -- R5.9: if it is refused by 4, 7, 8, 9 or 10, every region is erased and the main key is appended with an empty value: Written.
 pub initialise-written : (key : ℕ) (image : List ℕ) (s n : ℕ) → 4 ≤ refusal (answerOf (get key []) image s n)
