@@ -74,9 +74,16 @@ fn long_appends_on_the_largest_regions() {
     }
 }
 
-/// A value of bytes that are 255 anyway: no cut in it makes a difference, and the last cuts leave the whole record.
+/// A value of bytes that are 255 anyway: no cut in it makes a difference. A checksum that ends so, or is 255 in all four bytes: the last
+/// cuts leave the whole record.
 #[test]
 fn bytes_that_are_255_anyway() {
+    let all_four = made_to_fit(&[1, 0x80, 19, 0, 0, 0, 0, 0, 0, 0, 101], 0);
+    let scene = Scene::of(64, 101, all_four.to_vec(), Behind::Dead);
+    assert_eq!(scene.record[15..], [255; 4]);
+    every_cut(&scene);
+    let mut tries = (0..=255).map(|byte| Scene::of(64, 101, vec![byte, 1], Behind::Nothing));
+    every_cut(&tries.find(|scene| scene.record.ends_with(&[255])).unwrap());
     for s in [64, 1024] {
         every_cut(&Scene::of(s, 101, vec![255; 20], Behind::Live));
         every_cut(&Scene::of(s, 0x1234_5678_9abc_ffff, vec![255; 7], Behind::Nothing));
@@ -180,17 +187,21 @@ fn cut_after_ten(chip: &mut [u8], s: usize, n: usize, key: u64) {
 #[test]
 fn a_checksum_that_fits_what_was_cut() {
     let (s, n, key) = (256, 4, 101);
-    let header = [1, 0x80, 15 + 12, 0, 0, 0, 0, 0, 0, 0, 101];
     let mut value = *b"........gone";
-    let wanted = unsummed(&[255; 4]);
-    let word = summed(&[&header[..], &value[..4]].concat()) ^ unshifted(wanted);
-    value[4..8].copy_from_slice(&word.to_be_bytes());
+    let before = [&[1, 0x80, 27, 0, 0, 0, 0, 0, 0, 0, 101], &value[..4]].concat();
+    value[4..8].copy_from_slice(&made_to_fit(&before, 4));
     let mut chip = vec![255; s * n];
     assert_eq!(append(&mut chip, s, n, key, &value), OK);
     chip[s + 11 + 8..2 * s].fill(255);
+    assert_eq!(append(&mut chip, s, n, key, &value), KEY_ALREADY_EXISTS);
     value[8..].fill(255);
     assert_eq!(get(&chip, s, n, key), Ok(value.to_vec()));
-    assert_eq!(append(&mut chip, s, n, key, b"........gone"), KEY_ALREADY_EXISTS);
+}
+
+/// Four bytes which, behind these and with so many bytes of 255 behind them, have the checksum 255, 255, 255, 255.
+fn made_to_fit(before: &[u8], behind: usize) -> [u8; 4] {
+    let wanted = (0..behind).fold(0, |bits, _| unshifted(bits, 8) ^ 255 << 24);
+    (summed(before) ^ unshifted(wanted, 32)).to_be_bytes()
 }
 
 /// The checksum's 32 bits after these bytes, before they are inverted.
@@ -199,23 +210,10 @@ fn summed(bytes: &[u8]) -> u32 {
     bytes.iter().fold(0, |bits, &byte| (0..8).fold(bits ^ (byte as u32) << 24, |bits, _| shift(bits)))
 }
 
-/// What the 32 bits were before one shift; the polynomial's lowest bit says which way it went.
-fn unshift(bits: u32) -> u32 {
-    if bits & 1 == 1 {
-        (bits ^ 0x04C1_1DB7) >> 1 | 0x8000_0000
-    } else {
-        bits >> 1
-    }
-}
-
-/// What they were before 32 shifts.
-fn unshifted(bits: u32) -> u32 {
-    (0..32).fold(bits, |bits, _| unshift(bits))
-}
-
-/// What they were before these four bytes, if they are 0 after them.
-fn unsummed(bytes: &[u8; 4]) -> u32 {
-    unshifted(0) ^ u32::from_be_bytes(*bytes)
+/// What the 32 bits were before so many shifts; the polynomial's lowest bit says which way each went.
+fn unshifted(bits: u32, shifts: usize) -> u32 {
+    let unshift = |bits: u32| if bits & 1 == 1 { (bits ^ 0x04C1_1DB7) >> 1 | 0x8000_0000 } else { bits >> 1 };
+    (0..shifts).fold(bits, |bits, _| unshift(bits))
 }
 
 /// An invalidate clears one bit: cut or not, it is done or it is not. A zeroise that is cut after two bytes or more has removed the key,
