@@ -144,6 +144,7 @@ fn one_byte_alone(scene: &Scene, alone: usize) {
     cut[scene.start() + alone] = scene.record[alone];
     assert_ne!(scene.record[alone], 255);
     scene.place_not_blank(&cut);
+    made_dead(scene, cut, scene.record.len());
 }
 
 /// The key of which a cut leaves a record may be in use. Where its own record is found first, it answers, and the false one comes to light
@@ -226,7 +227,7 @@ fn removals_cut_after_every_number_of_bytes() {
         let changed: Vec<usize> = (0..dead.len()).filter(|&i| dead[i] != scene.whole[i]).collect();
         assert_eq!(changed, [scene.start() + 1]);
         assert_eq!(scene.whole[changed[0]] ^ dead[changed[0]], 0x80);
-        scene.answers_when_removed(&dead);
+        scene.answers_when_dead(&dead, scene.record.len());
         zeroise_cut(&scene);
     }
 }
@@ -243,7 +244,7 @@ fn zeroise_cut(scene: &Scene) {
             scene.answers(&cut, &Stands::Whole);
         } else {
             assert_eq!(cut[start + count.max(11)..], scene.whole[start + count.max(11)..]);
-            scene.answers_when_removed(&cut);
+            scene.answers_when_dead(&cut, scene.record.len());
         }
     }
 }
@@ -306,21 +307,23 @@ fn found_again(chip: &[u8], written: &[u8], start: usize, main: u64) {
 }
 
 /// By the flash's own commands: three bytes written over the place, 1 and the length that the record was to have, make whatever the cut
-/// left a dead record of that length. All is then as after a removal.
+/// left a dead record of that length. All is then as after a removal. Where its third byte was not yet begun, 15 does for the length.
 #[test]
 fn three_bytes_by_hand_make_it_dead() {
     for scene in some_scenes() {
-        (0..scene.record.len() * 16).for_each(|half| made_dead(&scene, half / 16, (half % 16 * 17) as u8));
+        let length = scene.record.len();
+        (0..length * 16).for_each(|half| made_dead(&scene, scene.cut(half / 16, (half % 16 * 17) as u8), length));
+        (0..2 * 256).for_each(|half| made_dead(&scene, scene.cut(half / 256, (half % 256) as u8), 15));
+        made_dead(&scene, scene.cut(2, 255), 15);
     }
 }
 
-fn made_dead(scene: &Scene, count: usize, left: u8) {
-    let three = [1, (scene.record.len() / 256) as u8, (scene.record.len() % 256) as u8];
-    let mut cut = scene.cut(count, left);
+fn made_dead(scene: &Scene, mut cut: Vec<u8>, length: usize) {
+    let three = [1, (length / 256) as u8, (length % 256) as u8];
     let place = &mut cut[scene.start()..];
     (0..3).for_each(|i| place[i] &= three[i]);
     assert_eq!(place[..3], three);
-    scene.answers_when_removed(&cut);
+    scene.answers_when_dead(&cut, length);
 }
 
 /// What is refused of key 2^64 - 1, of which a cut may leave a record: nothing can be done about it through the store.

@@ -272,14 +272,14 @@ impl Scene {
         assert_eq!(home.iter().all(|&byte| byte == 255), self.behind != Behind::Live);
     }
 
-    /// A removal that was done, or cut when it had made the record dead.
-    pub fn answers_when_removed(&self, chip: &[u8]) {
+    /// A dead record of this length stands at the place.
+    pub fn answers_when_dead(&self, chip: &[u8], length: usize) {
         let mut again = chip.to_vec();
         assert_eq!(said(get(chip, self.s, N, self.key)), KEY_NOT_FOUND);
         assert_eq!(said(image::invalidate_key(&mut again, self.s, N, self.key)), KEY_NOT_FOUND);
         assert_eq!(said(image::zeroise_key(&mut again, self.s, N, self.key)), KEY_NOT_FOUND);
         assert_eq!(again, chip);
-        self.removed(chip, self.place + self.record.len());
+        self.removed(chip, self.place + length);
         self.neighbours(chip, &Stands::Nothing);
     }
 
