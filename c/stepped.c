@@ -23,6 +23,7 @@ static uint32_t flash_read(size_t r) {
     return STILEFRAY_DONE;
 }
 
+/* It reads back what it wrote: a worn flash fails here. */
 static uint32_t flash_write(size_t place, const uint8_t *bytes, size_t len) {
     size_t i;
     if (busy()) return STILEFRAY_NOT_READY;

@@ -1,6 +1,6 @@
 //! What a write leaves that stops half way, by a loss of power or a service that failed, and what the retry answers: the table of
 //! docs/WORKSHOP.md, for every number of bytes after which an append or a removal can be cut. A write is taken to put its bytes down from
-//! the first to the last; what stands where a flash does otherwise is looked at in the tests after that.
+//! the first to the last; the two tests whose names end in `was_not_written` are about a flash that does not.
 mod cut;
 
 use cut::{append, free_place, get, probe_order, said, scenes, Behind, Scene, Stands, N};
