@@ -1,4 +1,7 @@
-/* The library from C: layouts, the afternoons, refusals by number, and a run of each operation one service at a time. */
+/*
+ * The library from C: versions, layouts, the afternoons (R15), refusals by number, a run of each operation one service at a time, and null
+ * pointers with length 0.
+ */
 #include "stilefray.h"
 #include <stdio.h>
 #include <stdlib.h>
@@ -12,6 +15,9 @@
 #else
 #define HOLDS(what) typedef char JOIN(holds_at_line_, __LINE__)[(what) ? 1 : -1]
 #endif
+/* A version's three numbers as it is written. */
+#define IN_WORDS2(major, minor, patch) #major "." #minor "." #patch
+#define IN_WORDS(major, minor, patch) IN_WORDS2(major, minor, patch)
 /* A field's place and its width: padding would hide a width that is wrong. */
 #define LIES(type, field, at, width) \
     HOLDS(offsetof(stilefray_##type, field) == (at) && sizeof(((stilefray_##type *)0)->field) == (width))
@@ -99,6 +105,7 @@ static void afternoons_2_to_4(void) {
     erase_chip();
     CHECK(written(stilefray_append_key(chip, CHIP, S, N, 1, value, 3)));
     CHECK(memcmp(chip + 64, record, sizeof record) == 0 && all(chip, 64, 255) && all(chip + 82, CHIP - 82, 255));
+    CHECK(chip[64] == STILEFRAY_FORMAT);
     CHECK(is(get(1, two, 2), STILEFRAY_REFUSED, STILEFRAY_BUFFER_TOO_SMALL, 3));
     CHECK(two[0] == 7 && two[1] == 8 && two[2] == 5);
     chip[81] ^= 1;
@@ -187,7 +194,7 @@ static int same(stilefray_stepped a, stilefray_stepped b) {
            q->place == r->place && is(q->answer, r->answer.kind, r->answer.refusal, r->answer.value);
 }
 
-/* Drives an operation to its answer. Before each service it says not ready twice, and tries a region buffer that is too short. */
+/* Drives an operation to its answer. Before each service it says not ready twice, and tries a region buffer too short, and none. */
 static stilefray_answer drive(stilefray_start start, const uint8_t *value, size_t value_len, uint8_t *buffer, size_t buffer_len) {
     stilefray_stepped now, again;
     uint8_t before[S];
@@ -203,6 +210,8 @@ static stilefray_answer drive(stilefray_start start, const uint8_t *value, size_
         }
         again = stilefray_step(now.op, STILEFRAY_FAILED, region, S - 1, value, value_len, buffer, buffer_len);
         CHECK(refused(again.request.answer, STILEFRAY_BAD_CALL) && same_op(again.op, now.op));
+        again = stilefray_step(now.op, STILEFRAY_FAILED, NULL, 0, NULL, 0, NULL, 0);
+        CHECK(refused(again.request.answer, STILEFRAY_BAD_CALL) && same_op(again.op, now.op));
         CHECK(memcmp(before, region, S) == 0);
         serve(now.request);
         now = stilefray_step(now.op, STILEFRAY_DONE, region, S, value, value_len, buffer, buffer_len);
@@ -213,22 +222,23 @@ static stilefray_answer drive(stilefray_start start, const uint8_t *value, size_
     return now.request.answer;
 }
 
-static void runs(void) {
+/* Each operation whole. What it does not use is lent as `nothing` and 0. */
+static void runs(uint8_t *nothing) {
     uint8_t buffer[6] = {5, 5, 5, 5, 5, 5}, whole[CHIP];
     erase_chip();
-    CHECK(written(drive(stilefray_start_initialise(S, N, 2), one, 0, one, 0)));
+    CHECK(written(drive(stilefray_start_initialise(S, N, 2), nothing, 0, nothing, 0)));
     CHECK(strcmp(did, "r2 r3 r1 r0 e0 e1 e2 e3 r2 r3 r1 r0 w128-143 ") == 0);
     memcpy(whole, chip, CHIP);
     CHECK(written(stilefray_append_key(whole, CHIP, S, N, 1, sevens, 5)));
-    CHECK(written(drive(stilefray_start_append(S, N, 1, 5), sevens, 5, one, 0)));
+    CHECK(written(drive(stilefray_start_append(S, N, 1, 5), sevens, 5, nothing, 0)));
     CHECK(strcmp(did, "r1 r2 r0 r3 w64-84 ") == 0 && memcmp(whole, chip, CHIP) == 0);
-    CHECK(is(drive(stilefray_start_get(S, N, 1, 6), one, 0, buffer, 6), STILEFRAY_COMPLETE, 0, 5));
+    CHECK(is(drive(stilefray_start_get(S, N, 1, 6), nothing, 0, buffer, 6), STILEFRAY_COMPLETE, 0, 5));
     CHECK(strcmp(did, "r1 ") == 0 && memcmp(buffer, sevens, 5) == 0 && buffer[5] == 5);
-    CHECK(written(drive(stilefray_start_invalidate(S, N, 1), one, 0, one, 0)));
+    CHECK(written(drive(stilefray_start_invalidate(S, N, 1), nothing, 0, nothing, 0)));
     CHECK(strcmp(did, "r1 w65-66 ") == 0 && chip[65] == 0 && chip[75] == 7);
-    CHECK(written(append(1, 5)) && written(drive(stilefray_start_zeroise(S, N, 1), one, 0, one, 0)));
+    CHECK(written(append(1, 5)) && written(drive(stilefray_start_zeroise(S, N, 1), nothing, 0, nothing, 0)));
     CHECK(strcmp(did, "r1 w84-104 ") == 0 && chip[84] == 1 && chip[85] == 0 && chip[86] == 20 && all(chip + 95, 9, 0));
-    CHECK(is(drive(stilefray_start_collect(S, N), one, 0, one, 0), STILEFRAY_FREED, 0, 64));
+    CHECK(is(drive(stilefray_start_collect(S, N), nothing, 0, nothing, 0), STILEFRAY_FREED, 0, 64));
     CHECK(strcmp(did, "r0 r1 e1 r2 r3 ") == 0 && all(chip + 64, 64, 255) && chip[128] == 1);
 }
 
@@ -327,18 +337,87 @@ static void forged_layouts(void) {
     }
 }
 
+/* No image at all: it has not n * s bytes, also where that is 0. */
+static void null_images(void) {
+    size_t s, n;
+    for (s = 0; s <= S; s += S)
+        for (n = 0; n <= N; n += N) {
+            CHECK(refused(stilefray_get_key(NULL, 0, s, n, 1, NULL, 0), STILEFRAY_BAD_GEOMETRY));
+            CHECK(refused(stilefray_append_key(NULL, 0, s, n, 1, NULL, 0), STILEFRAY_BAD_GEOMETRY));
+            CHECK(refused(stilefray_invalidate_key(NULL, 0, s, n, 1), STILEFRAY_BAD_GEOMETRY));
+            CHECK(refused(stilefray_zeroise_key(NULL, 0, s, n, 1), STILEFRAY_BAD_GEOMETRY));
+            CHECK(refused(stilefray_garbage_collect(NULL, 0, s, n), STILEFRAY_BAD_GEOMETRY));
+            CHECK(refused(stilefray_initialise(NULL, 0, s, n, 1), STILEFRAY_BAD_GEOMETRY));
+        }
+    CHECK(stilefray_checksum(NULL, 0) == stilefray_checksum(one, 0) && stilefray_checksum(NULL, 0) == 0xffffffffu);
+}
+
+/* An empty value and an empty buffer, in every answer that append and get can give to them. */
+static void null_values_and_buffers(void) {
+    uint8_t with_one[CHIP];
+    erase_chip();
+    CHECK(written(stilefray_append_key(chip, CHIP, S, N, 1, one, 0)));
+    memcpy(with_one, chip, CHIP);
+    erase_chip();
+    CHECK(refused(get(1, NULL, 0), STILEFRAY_KEY_NOT_FOUND) && refused(get(0, NULL, 0), STILEFRAY_BAD_KEY));
+    CHECK(refused(stilefray_append_key(chip, CHIP, S, N, 0, NULL, 0), STILEFRAY_BAD_KEY));
+    CHECK(written(stilefray_append_key(chip, CHIP, S, N, 1, NULL, 0)) && memcmp(chip, with_one, CHIP) == 0);
+    CHECK(is(get(1, NULL, 0), STILEFRAY_COMPLETE, 0, 0));
+    CHECK(refused(stilefray_append_key(chip, CHIP, S, N, 1, NULL, 0), STILEFRAY_KEY_ALREADY_EXISTS));
+    CHECK(written(append(2, 5)) && is(get(2, NULL, 0), STILEFRAY_REFUSED, STILEFRAY_BUFFER_TOO_SMALL, 5));
+    chip[64 + 11] ^= 1; /* the checksum of key 1 */
+    CHECK(refused(get(1, NULL, 0), STILEFRAY_INVALID_CHECK_SUM));
+    chip[64] = 2;
+    CHECK(refused(get(1, NULL, 0), STILEFRAY_UNSUPPORTED_VERSION));
+    CHECK(refused(stilefray_append_key(chip, CHIP, S, N, 1, NULL, 0), STILEFRAY_UNSUPPORTED_VERSION));
+    chip[64] = 1, chip[66] = 14;
+    CHECK(refused(get(1, NULL, 0), STILEFRAY_CORRUPT_DATA));
+    CHECK(refused(stilefray_append_key(chip, CHIP, S, N, 1, NULL, 0), STILEFRAY_CORRUPT_DATA));
+    erase_chip();
+    chip[70] = 0; /* in the place of the record */
+    CHECK(refused(stilefray_append_key(chip, CHIP, S, N, 1, NULL, 0), STILEFRAY_CORRUPT_DATA));
+    erase_chip();
+    CHECK(written(append(1, 49)) && written(append(5, 49)) && written(append(9, 49)) && written(append(13, 49)));
+    CHECK(refused(stilefray_append_key(chip, CHIP, S, N, 2, NULL, 0), STILEFRAY_FLASH_FULL));
+}
+
+/* An append and a get that use what is lent, which is empty; and a step that fails. */
+static void null_steps(void) {
+    stilefray_stepped now;
+    erase_chip();
+    CHECK(written(drive(stilefray_start_append(S, N, 1, 0), NULL, 0, NULL, 0)) && chip[66] == 15);
+    CHECK(is(drive(stilefray_start_get(S, N, 1, 0), NULL, 0, NULL, 0), STILEFRAY_COMPLETE, 0, 0));
+    CHECK(refused(drive(stilefray_start_append(S, N, 1, 0), NULL, 0, NULL, 0), STILEFRAY_KEY_ALREADY_EXISTS));
+    CHECK(refused(drive(stilefray_start_get(S, N, 3, 0), NULL, 0, NULL, 0), STILEFRAY_KEY_NOT_FOUND));
+    CHECK(refused(drive(stilefray_start_invalidate(S, N, 3), NULL, 0, NULL, 0), STILEFRAY_KEY_NOT_FOUND));
+    CHECK(is(drive(stilefray_start_initialise(S, N, 1), NULL, 0, NULL, 0), STILEFRAY_COMPLETE, 0, 0));
+    CHECK(written(append(2, 5)));
+    CHECK(is(drive(stilefray_start_get(S, N, 2, 0), NULL, 0, NULL, 0), STILEFRAY_REFUSED, STILEFRAY_BUFFER_TOO_SMALL, 5));
+    now = stilefray_step(stilefray_start_append(S, N, 3, 5).op, STILEFRAY_BEGIN, region, S, NULL, 0, NULL, 0);
+    CHECK(refused(now.request.answer, STILEFRAY_BAD_CALL)); /* a value of 5 bytes was named */
+    now = stilefray_step(stilefray_start_zeroise(S, N, 2).op, STILEFRAY_BEGIN, region, S, NULL, 0, NULL, 0);
+    CHECK(now.request.kind == STILEFRAY_READ);
+    now = stilefray_step(now.op, STILEFRAY_FAILED, region, S, NULL, 0, NULL, 0);
+    CHECK(refused(now.request.answer, STILEFRAY_FLASH_FAILED));
+}
+
 int main(void) {
     memset(sevens, 7, sizeof sevens);
+    CHECK(strcmp(STILEFRAY_VERSION, IN_WORDS(STILEFRAY_VERSION_MAJOR, STILEFRAY_VERSION_MINOR, STILEFRAY_VERSION_PATCH)) == 0);
     CHECK(stilefray_checksum((const uint8_t *)"123456789", 9) == 0x765e7680u);
     afternoons_2_to_4();
     afternoons_5_to_7();
     afternoons_8_to_12();
     refusals_1_to_3();
-    runs();
+    runs(one);
+    runs(NULL);
     bad_calls();
     forged_seeks();
     forged_edits();
     forged_layouts();
+    null_images();
+    null_values_and_buffers();
+    null_steps();
     printf("%d checks passed\n", checks);
     return 0;
 }
