@@ -174,7 +174,8 @@ stilefray_answer stilefray_get_key(const uint8_t *image, size_t image_len, size_
                                    size_t buffer_len);
 
 /*
- * Append (R5.3, R5.4): a value under a key that has no live record. To replace a value, remove the key first. The value is only read.
+ * Append (R5.3, R5.4): a value under a key that has no live record. The value is only read. To replace a value see docs/WORKSHOP.md: on a
+ * full chip removing it first loses it.
  *
  * WRITTEN: one write put the record into the first region in probe order with room. REFUSED by 1, 2, 3, 5, 6, 7 or 8.
  */
@@ -201,7 +202,8 @@ stilefray_answer stilefray_zeroise_key(uint8_t *image, size_t image_len, size_t 
 stilefray_answer stilefray_garbage_collect(uint8_t *image, size_t image_len, size_t s, size_t n);
 
 /*
- * Initialise (R5.9): sees to it that the chip is one of this store's. The key is the main key.
+ * Initialise (R5.9): sees to it that the chip is one of this store's. The key is the main key: on a chip that tickv wrote, the very hash
+ * that was given to tickv. With any other key the whole chip is erased.
  *
  * COMPLETE, value 0: the main key's record was there, with an empty value and a right checksum; nothing changed. WRITTEN: a get of the
  * main key into an empty buffer was refused (by 4, 7, 8, 9 or 10), so every region was erased and the main key appended with an empty
