@@ -3,6 +3,7 @@
 mod afternoons;
 mod bench;
 mod bench_chip;
+mod by_store;
 mod choose;
 mod crate_side;
 mod domain;
