@@ -2,7 +2,7 @@
 //! where `rt staticlib stilefray` writes it. Where it is missing the build stops here, and not at the linker.
 use std::env;
 use std::ffi::OsString;
-use std::path::{Path, PathBuf};
+use std::path::{Component, Path, PathBuf};
 use std::process::ExitCode;
 
 const ARCHIVE: &str = "libstilefray.a";
@@ -31,7 +31,7 @@ fn archive_dir() -> Result<String, String> {
     let named = env::var_os("STILEFRAY_LIB_DIR").filter(|dir| !dir.is_empty());
     let dir = match &named {
         Some(dir) => whole(&from_where_cargo_was_called(dir)?),
-        None => repository.join("target").join("staticlib"),
+        None => default_dir(&repository),
     };
     if dir.is_file() {
         return Err(format!("STILEFRAY_LIB_DIR names a file, {}: name the folder that holds {ARCHIVE}", dir.display()));
@@ -43,15 +43,22 @@ fn archive_dir() -> Result<String, String> {
     dir.into_os_string().into_string().map_err(|_| format!("cargo takes no path that is not UTF-8: {shown}"))
 }
 
+/// What is missing and what to do. A package that was taken out of the repository cannot tell where that is.
 fn missing(dir: &Path, named: bool, repository: &Path) -> String {
-    let asked = if named { " (STILEFRAY_LIB_DIR names its folder)" } else { "" };
-    let archive = dir.join(ARCHIVE);
-    let (archive, repository) = (archive.display(), repository.display());
+    let because = if named { ", in the folder that STILEFRAY_LIB_DIR names" } else { "" };
+    let is_one = repository.join("crates.txt").is_file();
+    let there = if is_one { repository.display().to_string() } else { "a clone of Stilefray".to_string() };
     format!(
-        "there is no {archive}{asked}.\n\
-         `rt staticlib stilefray`, called in {repository}, writes {repository}/target/staticlib/{ARCHIVE}, where it is looked for as \
-         long as STILEFRAY_LIB_DIR is not set; an archive that lies elsewhere is found by setting STILEFRAY_LIB_DIR to its folder."
+        "there is no archive {}{because}\n\
+         make one: `rt staticlib stilefray`, called in {there}, writes target/staticlib/{ARCHIVE} there\n\
+         STILEFRAY_LIB_DIR names the folder that it is taken from; not set, that is {}",
+        dir.join(ARCHIVE).display(),
+        default_dir(repository).display()
     )
+}
+
+fn default_dir(repository: &Path) -> PathBuf {
+    repository.join("target").join("staticlib")
 }
 
 /// A path that is not whole is meant from the folder in which cargo was called. Cargo runs this program in the package's own folder, so
@@ -75,8 +82,13 @@ fn manifest_dir() -> PathBuf {
     env::var_os("CARGO_MANIFEST_DIR").map_or_else(|| PathBuf::from("."), PathBuf::from)
 }
 
-/// The path without links, `.` and `..`, as far as it exists.
+/// The path without links, `.` and `..`: as far as it exists as it is on the disk, and the rest as it is written.
 fn whole(path: &Path) -> PathBuf {
     let known = path.ancestors().find_map(|part| Some((part.canonicalize().ok()?, path.strip_prefix(part).ok()?)));
-    known.map_or_else(|| path.to_path_buf(), |(part, rest)| if rest.as_os_str().is_empty() { part } else { part.join(rest) })
+    let (known, rest) = known.unwrap_or_else(|| (PathBuf::new(), path));
+    rest.components().fold(known, |whole, part| match part {
+        Component::CurDir => whole,
+        Component::ParentDir => whole.parent().map_or(PathBuf::new(), Path::to_path_buf),
+        part => whole.join(part),
+    })
 }

@@ -56,23 +56,26 @@ fn after(services: &[Did]) -> Vec<u8> {
     image
 }
 
+/// The call with this service failing; one past the last fails nothing.
+fn fails(call: &Call, fails_at: usize) {
+    let (whole, services) = call.by_steps(&used(), S, N);
+    let mut chip = Chip::new(S, used());
+    (chip.fails_at, chip.waits) = (Some(fails_at), 1);
+    let (answer, chip) = answered(call, chip, u32::MAX);
+    assert_eq!(chip.did, services[..fails_at], "{call:?}");
+    assert_eq!(chip.image, after(&services[..fails_at]), "{call:?}");
+    let expected = match services.get(fails_at) {
+        Some(did) => Err(Refusal::FlashFailed(Failure { service: did.service(), reason: Reason::Failed(Fault(fails_at)) })),
+        None => whole.answer.map_err(|refusal| panic!("{refusal}")),
+    };
+    assert_eq!(answer, expected, "{call:?}");
+}
+
 #[test]
 fn a_failed_service_ends_the_call_wherever_it_comes() {
     for (call, count) in calls() {
-        let (whole, services) = call.by_steps(&used(), S, N);
-        assert_eq!(services.len(), count, "{call:?}");
-        for fails_at in 0..=count {
-            let mut chip = Chip::new(S, used());
-            (chip.fails_at, chip.waits) = (Some(fails_at), 1);
-            let (answer, chip) = answered(&call, chip, u32::MAX);
-            assert_eq!(chip.did, services[..fails_at], "{call:?}");
-            assert_eq!(chip.image, after(&services[..fails_at]), "{call:?}");
-            let expected = match services.get(fails_at) {
-                Some(did) => Err(Refusal::FlashFailed(Failure { service: did.service(), reason: Reason::Failed(Fault(fails_at)) })),
-                None => whole.answer.map_err(|refusal| panic!("{refusal}")),
-            };
-            assert_eq!(answer, expected, "{call:?}");
-        }
+        assert_eq!(call.by_steps(&used(), S, N).1.len(), count, "{call:?}");
+        (0..=count).for_each(|fails_at| fails(&call, fails_at));
     }
 }
 
@@ -106,31 +109,33 @@ impl stilefray::Flash for Late {
     }
 }
 
-/// At each service of each operation, whether it reads, writes or erases: with a limit of so many, that many waits are borne and one
-/// more ends it.
+/// The call on a flash whose services wait so often from this one on: borne up to the limit, and ended by one more.
+fn waits(call: &Call, from: usize, limit: u32, waits: u32) {
+    let (whole, services) = call.by_steps(&used(), S, N);
+    let (mut region, mut buffer) = ([0; S], call.buffer());
+    let flash = Late { chip: Chip::new(S, used()), from, waits: waits as usize };
+    let mut store = Store::new(flash, &mut region, N);
+    store.set_limit(limit);
+    assert_eq!(store.limit(), limit);
+    let answer = call.underway(&mut store, &mut buffer).unwrap().finish();
+    let chip = &store.flash().chip;
+    if waits <= limit {
+        assert_eq!((answer.map_err(Refusal::plain), &chip.image), (whole.answer, &whole.image), "{call:?}");
+        return;
+    }
+    let failure = Failure { service: services[from].service(), reason: Reason::NeverReady { limit } };
+    assert_eq!(answer, Err(Refusal::FlashFailed(failure)), "{call:?}");
+    assert_eq!((chip.did.as_slice(), chip.waited), (&services[..from], limit as usize + 1));
+    assert_eq!(chip.image, after(&services[..from]));
+}
+
+/// At each service of each operation, whether it reads, writes or erases.
 #[test]
 fn a_service_that_is_never_ready_ends_the_call_wherever_it_comes() {
+    let limits = [(0, 0), (0, 1), (0, 5), (1, 1), (1, 2), (2, 2), (2, 3), (7, 7), (7, 8), (7, 100)];
     for (call, count) in calls() {
-        let (whole, services) = call.by_steps(&used(), S, N);
-        for (from, limit) in (0..count).flat_map(|from| [0, 1, 2, 7].map(|limit| (from, limit))) {
-            for (waits, borne) in [(limit, true), (limit + 1, false), (limit + 5, false)] {
-                let (mut region, mut buffer) = ([0; S], call.buffer());
-                let flash = Late { chip: Chip::new(S, used()), from, waits: waits as usize };
-                let mut store = Store::new(flash, &mut region, N);
-                store.set_limit(limit);
-                assert_eq!(store.limit(), limit);
-                let answer = call.underway(&mut store, &mut buffer).unwrap().finish();
-                let chip = &store.flash().chip;
-                if borne {
-                    assert_eq!((answer.map_err(Refusal::plain), &chip.image), (whole.answer, &whole.image), "{call:?}");
-                    continue;
-                }
-                let failure = Failure { service: services[from].service(), reason: Reason::NeverReady { limit } };
-                assert_eq!(answer, Err(Refusal::FlashFailed(failure)), "{call:?}");
-                assert_eq!((chip.did.as_slice(), chip.waited), (&services[..from], limit as usize + 1));
-                assert_eq!(chip.image, after(&services[..from]));
-            }
-        }
+        let every = (0..count).flat_map(|from| limits.map(|(limit, so_often)| (from, limit, so_often)));
+        every.for_each(|(from, limit, so_often)| waits(&call, from, limit, so_often));
     }
 }
 
