@@ -50,6 +50,9 @@ impl<E: Error + 'static> Error for NotDone<E> {
 /// it that the old service is over before it begins the new one, by saying NotReady or by waiting, and must not take the end of the
 /// old one for that of the new.
 ///
+/// What is lent to a call is lent for that call alone. While a write is not ready it is called again with the same bytes, but a flash
+/// that goes on reading them between two calls, or writing to a buffer, as by DMA, needs a copy of its own.
+///
 /// ```
 /// use stilefray::{Flash, NotDone, Store};
 ///

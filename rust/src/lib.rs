@@ -64,6 +64,7 @@ pub mod stepped;
 mod store;
 mod underway;
 
+pub use asynchronous::Awaited;
 pub use failure::{Failure, Reason, Service};
 pub use flash::{Flash, NotDone};
 pub use refusal::{Answer, Refusal, Success};

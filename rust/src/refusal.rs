@@ -15,6 +15,8 @@ use core::fmt;
 /// where it was the host itself that said so, that is nothing, and a plain `Refusal` is meant. A [`Store`](crate::Store) answers
 /// `Refusal<Failure<E>>` ([`StoreRefusal`](crate::StoreRefusal)), which says which service it was and holds the flash's own error.
 ///
+/// Where nothing says which one is meant, as in a comparison of two numbers, the plain one is written `<Refusal>::KeyNotFound`.
+///
 /// More may come in a later edition, so a `match` needs a last arm for any other:
 ///
 /// ```compile_fail,E0004

@@ -4,6 +4,7 @@ use crate::flash::{Flash, NotDone};
 use crate::refusal::{Answer, Refusal};
 use crate::stepped::{Reply, Request, Running};
 use crate::store::StoreAnswer;
+use core::fmt;
 use core::future::Future;
 use core::pin::Pin;
 use core::task::{Context, Poll};
@@ -74,7 +75,6 @@ pub enum Served<E> {
 /// assert_eq!((answer, turns), (Ok(Success::Written), 5)); // four reads and a write
 /// # Ok::<(), StoreRefusal<Chip>>(())
 /// ```
-#[derive(Debug)]
 #[must_use = "nothing is done until it is served, polled or awaited, and dropping it gives the operation up"]
 pub struct Underway<'o, F: Flash> {
     flash: &'o mut F,
@@ -212,6 +212,15 @@ impl<'o, F: Flash> Underway<'o, F> {
     fn answers(&mut self, answer: StoreAnswer<F>) -> Served<F::Error> {
         self.request = Request::Answer(Err(Refusal::BadCall));
         Served::Answer(answer)
+    }
+}
+
+/// Neither the flash nor the bytes that are lent.
+impl<F: Flash> fmt::Debug for Underway<'_, F> {
+    fn fmt(&self, f: &mut fmt::Formatter<'_>) -> fmt::Result {
+        let (service, waited, limit) = (self.waits_for(), self.waited, self.limit);
+        let mut words = f.debug_struct("Underway");
+        words.field("waits_for", &service).field("waited", &waited).field("limit", &limit).finish_non_exhaustive()
     }
 }
 

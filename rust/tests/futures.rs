@@ -163,7 +163,13 @@ fn polled_after_the_end_it_answers_bad_call() {
     for _ in 0..3 {
         assert_eq!(poll_once(Pin::new(&mut get)), Poll::Ready(Err(Refusal::BadCall)));
     }
-    assert_eq!(store.flash().did.len(), 1);
+    let mut get = store.get_key_async(1, &mut []);
+    assert_eq!(poll_once(Pin::new(&mut get)), Poll::Ready(Err(Refusal::KeyNotFound)));
+    assert_eq!(poll_once(Pin::new(&mut get)), Poll::Ready(Err(Refusal::BadCall)));
+    let mut refused = store.initialise_async(0);
+    assert_eq!(poll_once(Pin::new(&mut refused)), Poll::Ready(Err(Refusal::BadKey)));
+    assert_eq!(poll_once(Pin::new(&mut refused)), Poll::Ready(Err(Refusal::BadCall)));
+    assert_eq!(store.flash().did.len(), 2);
 }
 
 #[test]
@@ -173,8 +179,8 @@ fn a_call_that_is_dropped_is_given_up() {
     drop(store.append_key_async(1, b"abc"));
     assert_eq!(store.flash().did, []);
     for polls in 0..5 {
-        let mut append = Box::pin(store.append_key_async(1, b"abc"));
-        (0..polls).for_each(|_| assert_eq!(poll_once(append.as_mut()), Poll::Pending));
+        let mut append = store.append_key_async(1, b"abc");
+        (0..polls).for_each(|_| assert_eq!(poll_once(Pin::new(&mut append)), Poll::Pending));
         drop(append);
         assert_eq!((store.flash().did.len(), &store.flash().image), (polls, &blank()));
         store.flash_mut().did.clear();

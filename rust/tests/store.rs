@@ -1,8 +1,8 @@
 //! The blocking calls of a store over a flash in memory, at once and slow. Failures are in failures.rs.
 mod common;
 use common::Did::{Erase, Read, Write};
-use common::{blank, Chip, N, S};
-use stilefray::{image, Refusal, Store, StoreRefusal, Success};
+use common::{blank, Chip, Fault, N, S};
+use stilefray::{image, Flash, Refusal, Store, StoreRefusal, Success};
 
 /// A life of a store; what it answers, in order.
 fn life(store: &mut Store<'_, Chip>) -> Vec<Result<usize, u32>> {
@@ -69,6 +69,8 @@ fn a_flash_may_be_lent() {
     let mut region = [0; S];
     assert_eq!(Store::new(&mut chip, &mut region, N).append_key(1, &[]), Ok(()));
     assert_eq!(chip.image[64], 1);
+    let unnamed: &mut dyn Flash<Error = Fault> = &mut chip;
+    assert_eq!(Store::new(unnamed, &mut region, N).get_key(1, &mut []), Ok(0));
     chip.did.clear();
     let given_back = Store::new(chip, &mut region, N).into_flash();
     assert_eq!((given_back.image[64], given_back.did), (1, vec![]));

@@ -36,6 +36,17 @@ fn polled_it_is_pending_until_it_answers() {
     assert_eq!(polls[7], Poll::Ready(Ok(Success::Freed(0))));
 }
 
+#[test]
+fn it_shows_what_it_waits_for_and_none_of_the_bytes() {
+    let mut region = [0; S];
+    let mut store = Store::new(Chip::new(S, blank()), &mut region, N);
+    store.flash_mut().waits = 2;
+    store.set_limit(7);
+    let mut append = store.start_append_key(1, b"abc").unwrap();
+    assert_eq!(append.serve(), Served::NotReady);
+    assert_eq!(format!("{append:?}"), "Underway { waits_for: Some(Read { region: 1 }), waited: 1, limit: 7, .. }");
+}
+
 /// A chip on which each call has something to do.
 fn used() -> Vec<u8> {
     let mut chip = blank();
