@@ -31,17 +31,17 @@
 //!
 //! | tickv 2.0.0 | here |
 //! |---|---|
-//! | `TicKV::new(controller, &mut [u8; S], flash_size)` | [`Store::new`]`(flash, &mut [u8], regions)`, where `regions` is `flash_size / S` |
+//! | `TicKV::new(controller, &mut [u8; S], flash_size)` | [`Store::new`]`(flash, &mut [u8], regions)`; `regions` is `flash_size / S` |
 //! | `FlashController<S>`, with `&self` | [`Flash`], with `&mut self` and an error type of its own |
-//! | `ErrorCode::ReadNotReady(_)`, `WriteNotReady(_)`, `EraseNotReady(_)` | [`NotDone::NotReady`]; the call is then repeated, a write and an erase too, as often as the [limit](Store::set_limit) says |
-//! | `ErrorCode::ReadFail`, `WriteFail`, `EraseFail` | [`NotDone::Failed`], and [`Refusal::FlashFailed`] with the [service](Service) and the flash's own error |
+//! | `ReadNotReady(_)`, `WriteNotReady(_)`, `EraseNotReady(_)` | [`NotDone::NotReady`]; all are asked again, up to a [limit](Store::set_limit) |
+//! | `ReadFail`, `WriteFail`, `EraseFail` | [`NotDone::Failed`] with your error, then [`Refusal::FlashFailed`] with a [`Failure`] |
 //! | `initialise(hash)` | [`Store::initialise`]: `Complete(0)` or `Written`, as there |
 //! | `append_key(hash, &value)` | [`Store::append_key`]: `Ok(())` is its `Written` |
 //! | `get_key(hash, &mut buf)`, `Ok((Complete, len))` | [`Store::get_key`], `Ok(len)` |
 //! | `invalidate_key(hash)`, `zeroise_key(hash)`, `garbage_collect()` | the same names |
-//! | `AsyncTicKV`, `continue_operation()` | [`Store::start_get_key`] and its kin, and [`Underway::serve`]; or [`Store::get_key_async`] and its kin |
+//! | `AsyncTicKV`, `continue_operation()` | [`Store::start_get_key`] and [`Underway::serve`], or [`Store::get_key_async`]; and their kin |
 //! | `SuccessCode::Queued` | [`Served::More`] and [`Served::NotReady`]; Written is answered after the write is confirmed |
-//! | `ErrorCode::RegionFull` | does not come |
+//! | `RegionFull` | does not come |
 //! | other `ErrorCode`s | the [`Refusal`] of the same name |
 //!
 //! The record format is tickv's, so a chip that tickv wrote is read as it stands, if its host was little-endian and the chip has 1 to 64

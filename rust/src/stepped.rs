@@ -153,8 +153,8 @@ impl Running {
     /// of docs/RULES.md is the whole list.
     ///
     /// A step alters `region` only where it asks for a write: the bytes to write then lie in it at their own place, and the rest stays
-    /// as last read. It alters `buffer` only where a get answers Complete, BufferTooSmall or InvalidCheckSum: by the value's first
-    /// bytes, as far as they fit.
+    /// as last read (R8.6). It alters `buffer` only where a get answers Complete, BufferTooSmall or InvalidCheckSum: by the value's
+    /// first bytes, as far as they fit (R8.7).
     #[inline]
     pub fn step(&mut self, reply: Reply, region: &mut [u8], value: &[u8], buffer: &mut [u8]) -> Request {
         let stepped = ffi::step(self.0, reply.number(), region, value, buffer);

@@ -42,9 +42,10 @@ pub enum Served<E> {
 ///
 /// **Dropping it gives the operation up.** Of a get, an append or a removal the chip is then as it was, or as the whole operation leaves
 /// it; of a collect some of the dead regions are erased; of an initialise some or all regions may be, and the main key may be missing: do
-/// it again (R11.9 of docs/RULES.md; docs/HOST.md says what to do about an initialise on a chip that was not well-formed). If the service
-/// at hand had said NotReady, the flash may still be busy with it, and the store's next operation asks it for another service: see
-/// [`Flash`].
+/// it again (R11.9 of docs/RULES.md; docs/HOST.md says what to do about an initialise on a chip that was not well-formed). That holds
+/// between two services. If the service at hand had said NotReady, the flash may still be busy with it, and the store's next operation
+/// asks it for another: see [`Flash`]. It is the flash's to end it, which is as if it had been served once more, or to break it off, and
+/// of what a write or an erase leaves then nothing is promised (R13.8).
 ///
 /// ```
 /// # use stilefray::{Flash, NotDone, Served, Store, StoreRefusal, Success};

@@ -94,24 +94,23 @@ fn one_service_a_poll_and_a_flash_that_wakes_at_once() {
     }
 }
 
+/// An append on a flash that interrupts, each of whose services waits twice.
+fn interrupted<F: Flash>(flash: F, waker: &RefCell<Option<Waker>>) -> Took<bool> {
+    let mut region = [0; S];
+    let mut store = Store::new(flash, &mut region, N);
+    let interrupt = || waker.borrow_mut().take().expect("the flash has the waker").wake();
+    let Took { answer, polls, sleeps } = run(store.append_key_async(1, b"abc"), interrupt);
+    Took { answer: answer.is_ok(), polls, sleeps }
+}
+
 #[test]
 fn a_flash_that_interrupts_is_asked_only_when_it_has() {
-    for lent in [false, true] {
-        let (waker, mut region) = (Rc::default(), [0; S]);
-        let mut flash = Interrupting { chip: slow(blank(), 2), waker: Rc::clone(&waker) };
-        let interrupt = || waker.borrow_mut().take().expect("the flash has the waker").wake();
-        let took = if lent {
-            // A flash that is lent hands the waker on.
-            let mut store = Store::new(&mut flash, &mut region, N);
-            run(store.start_append_key(1, b"abc").unwrap(), interrupt).polls
-        } else {
-            let mut store = Store::new(flash, &mut region, N);
-            let took = run(store.start_append_key(1, b"abc").unwrap(), interrupt);
-            assert_eq!((took.answer, took.sleeps), (Ok(Success::Written), 10), "two waits for each of five services");
-            took.polls
-        };
-        assert_eq!(took, 15);
-    }
+    let waker = Rc::default();
+    let mut flash = Interrupting { chip: slow(blank(), 2), waker: Rc::clone(&waker) };
+    let took = Took { answer: true, polls: 15, sleeps: 10 };
+    assert_eq!(interrupted(&mut flash, &waker), took, "a flash that is lent hands the waker on");
+    flash.chip.image.fill(255);
+    assert_eq!(interrupted(flash, &waker), took);
 }
 
 #[test]
