@@ -33,7 +33,7 @@
 //! |---|---|
 //! | `TicKV::new(controller, &mut [u8; S], flash_size)` | [`Store::new`]`(flash, &mut [u8], regions)`; `regions` is `flash_size / S` |
 //! | `FlashController<S>`, with `&self` | [`Flash`], with `&mut self` and an error type of its own |
-//! | `ReadNotReady(_)`, `WriteNotReady(_)`, `EraseNotReady(_)` | [`NotDone::NotReady`]; all are asked again, up to a [limit](Store::set_limit) |
+//! | `ReadNotReady(_)`, `WriteNotReady(_)`, `EraseNotReady(_)` | [`NotDone::NotReady`]; asked again, up to a [limit](Store::set_limit) |
 //! | `ReadFail`, `WriteFail`, `EraseFail` | [`NotDone::Failed`] with your error, then [`Refusal::FlashFailed`] with a [`Failure`] |
 //! | `initialise(hash)` | [`Store::initialise`]: `Complete(0)` or `Written`, as there |
 //! | `append_key(hash, &value)` | [`Store::append_key`]: `Ok(())` is its `Written` |

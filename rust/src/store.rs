@@ -84,7 +84,7 @@ impl<'a, F: Flash> Store<'a, F> {
     ///
     /// As long as nobody sets it, it is `u32::MAX`: so no call runs for ever, as long as each call of the flash returns, but on a flash
     /// that is never ready it runs for four thousand million of them. Choose one by how long a service may take and how often it is
-    /// asked.
+    /// asked. A flash that has a clock may rather look at the time itself, and say `Failed` when it is up.
     ///
     /// The flash may still be busy with the service that was given up. Before the next operation see to it, through
     /// [`flash_mut`](Store::flash_mut), that it is over or broken off. What a write or an erase leaves that was broken off is not
