@@ -33,7 +33,7 @@ fn archive_dir() -> Result<String, String> {
         Some(dir) => whole(&from_where_cargo_was_called(dir)?),
         None => default_dir(&repository),
     };
-    if dir.is_file() {
+    if named.is_some() && dir.is_file() {
         return Err(format!("STILEFRAY_LIB_DIR names a file, {}: name the folder that holds {ARCHIVE}", dir.display()));
     }
     if !dir.join(ARCHIVE).is_file() {

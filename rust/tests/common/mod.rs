@@ -1,5 +1,6 @@
 //! A flash in memory, and helpers that several tests use.
 #![allow(dead_code)]
+pub mod package;
 pub mod rule;
 
 use std::fmt;
