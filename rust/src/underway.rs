@@ -27,7 +27,7 @@ pub enum Served<E> {
 /// [`poll_service`](Underway::poll_service) does the same as a [`Poll`]; and it is itself a [`Future`], of one service a poll. The first
 /// step is already taken, and nothing is asked of the flash before the first service.
 ///
-/// It borrows the store, and the value or the buffer, until it is dropped: no other operation can use the store's flash and region
+/// It borrows the store, and the value or the buffer, until its last use: no other operation can use the store's flash and region
 /// buffer meanwhile. An append that waits for its write has the bytes to write in that buffer, and a get in between would lose them:
 ///
 /// ```compile_fail,E0499
