@@ -1,24 +1,94 @@
 //! Says where the static library lies: in the folder that STILEFRAY_LIB_DIR names, or else in target/staticlib of the repository,
-//! where `rt staticlib stilefray` writes it.
+//! where `rt staticlib stilefray` writes it. Where it is missing the build stops here, and not at the linker.
 use std::env;
-use std::path::{Path, PathBuf};
+use std::ffi::OsString;
+use std::path::{Component, Path, PathBuf};
+use std::process::ExitCode;
 
-fn main() {
+const ARCHIVE: &str = "libstilefray.a";
+
+fn main() -> ExitCode {
+    println!("cargo:rerun-if-changed=build.rs");
     println!("cargo:rerun-if-env-changed=STILEFRAY_LIB_DIR");
-    let dir = match env::var_os("STILEFRAY_LIB_DIR") {
-        Some(dir) => PathBuf::from(dir),
-        None => default_dir(),
-    };
-    let archive = dir.join("libstilefray.a");
-    println!("cargo:rerun-if-changed={}", archive.display());
-    if !archive.is_file() {
-        println!("cargo:warning=there is no {}: run `rt staticlib stilefray`, or set STILEFRAY_LIB_DIR", archive.display());
+    match archive_dir() {
+        Ok(dir) => {
+            println!("cargo:rerun-if-changed={dir}/{ARCHIVE}");
+            println!("cargo:rustc-link-search=native={dir}");
+            println!("cargo:rustc-link-lib=static=stilefray");
+            ExitCode::SUCCESS
+        }
+        Err(message) => {
+            eprintln!("{message}");
+            ExitCode::FAILURE
+        }
     }
-    println!("cargo:rustc-link-search=native={}", dir.display());
-    println!("cargo:rustc-link-lib=static=stilefray");
 }
 
-fn default_dir() -> PathBuf {
-    let manifest = env::var_os("CARGO_MANIFEST_DIR").unwrap_or_else(|| ".".into());
-    Path::new(&manifest).join("..").join("target").join("staticlib")
+/// The folder that holds the archive, by its whole path; or why there is none.
+fn archive_dir() -> Result<String, String> {
+    let repository = whole(&manifest_dir().join(".."));
+    // Set to nothing, it is as if it were not set.
+    let named = env::var_os("STILEFRAY_LIB_DIR").filter(|dir| !dir.is_empty());
+    let dir = match &named {
+        Some(dir) => whole(&from_where_cargo_was_called(dir)?),
+        None => default_dir(&repository),
+    };
+    if named.is_some() && dir.is_file() {
+        return Err(format!("STILEFRAY_LIB_DIR names a file, {}: name the folder that holds {ARCHIVE}", dir.display()));
+    }
+    if !dir.join(ARCHIVE).is_file() {
+        return Err(missing(&dir, named.is_some(), &repository));
+    }
+    let shown = dir.display().to_string();
+    dir.into_os_string().into_string().map_err(|_| format!("cargo takes no path that is not UTF-8: {shown}"))
+}
+
+/// What is missing and what to do. A package that was taken out of the repository cannot tell where that is.
+fn missing(dir: &Path, named: bool, repository: &Path) -> String {
+    let because = if named { ", in the folder that STILEFRAY_LIB_DIR names" } else { "" };
+    let is_one = repository.join("crates.txt").is_file();
+    let there = if is_one { repository.display().to_string() } else { "a clone of Stilefray".to_string() };
+    format!(
+        "there is no archive {}{because}\n\
+         make one: `rt staticlib stilefray`, called in {there}, writes target/staticlib/{ARCHIVE} there\n\
+         STILEFRAY_LIB_DIR names the folder that it is taken from; not set, that is {}",
+        dir.join(ARCHIVE).display(),
+        default_dir(repository).display()
+    )
+}
+
+fn default_dir(repository: &Path) -> PathBuf {
+    repository.join("target").join("staticlib")
+}
+
+/// A path that is not whole is meant from the folder in which cargo was called. Cargo runs this program in the package's own folder, so
+/// that it has to be taken from the shell's PWD.
+fn from_where_cargo_was_called(dir: &OsString) -> Result<PathBuf, String> {
+    let dir = Path::new(dir);
+    if dir.is_absolute() {
+        return Ok(dir.to_path_buf());
+    }
+    println!("cargo:rerun-if-env-changed=PWD");
+    match env::var_os("PWD").map(PathBuf::from).filter(|called_in| called_in.is_absolute()) {
+        Some(called_in) => Ok(called_in.join(dir)),
+        None => Err(format!(
+            "STILEFRAY_LIB_DIR is {}, and the folder in which cargo was called is not known (PWD): give it a whole path",
+            dir.display()
+        )),
+    }
+}
+
+fn manifest_dir() -> PathBuf {
+    env::var_os("CARGO_MANIFEST_DIR").map_or_else(|| PathBuf::from("."), PathBuf::from)
+}
+
+/// The path without links, `.` and `..`: as far as it exists as it is on the disk, and the rest as it is written.
+fn whole(path: &Path) -> PathBuf {
+    let known = path.ancestors().find_map(|part| Some((part.canonicalize().ok()?, path.strip_prefix(part).ok()?)));
+    let (known, rest) = known.unwrap_or_else(|| (PathBuf::new(), path));
+    rest.components().fold(known, |whole, part| match part {
+        Component::CurDir => whole,
+        Component::ParentDir => whole.parent().map_or(PathBuf::new(), Path::to_path_buf),
+        part => whole.join(part),
+    })
 }

@@ -1,4 +1,4 @@
-//! 01's "Afternoons to try", on our store and on the straight version.
+//! The worked examples of docs/RULES.md (R15), on our store and on the straight version.
 
 use crate::ours;
 use crate::straight::{self, checksum, probe, well_formed, Answer, Call, Outcome, Refusal};

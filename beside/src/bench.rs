@@ -84,17 +84,19 @@ struct Copying<'a> {
 }
 
 impl Flash for Copying<'_> {
-    fn read_region(&mut self, region: usize, buffer: &mut [u8]) -> Result<(), NotDone> {
+    type Error = ();
+
+    fn read_region(&mut self, region: usize, buffer: &mut [u8]) -> Result<(), NotDone<()>> {
         buffer.copy_from_slice(&self.image[region * self.s..][..self.s]);
         Ok(())
     }
 
-    fn write(&mut self, _: usize, _: &[u8]) -> Result<(), NotDone> {
-        Err(NotDone::Failed)
+    fn write(&mut self, _: usize, _: &[u8]) -> Result<(), NotDone<()>> {
+        Err(NotDone::Failed(()))
     }
 
-    fn erase_region(&mut self, _: usize) -> Result<(), NotDone> {
-        Err(NotDone::Failed)
+    fn erase_region(&mut self, _: usize) -> Result<(), NotDone<()>> {
+        Err(NotDone::Failed(()))
     }
 }
 

@@ -38,7 +38,7 @@ impl<const S: usize> FlashController<S> for Memory<'_, S> {
 #[derive(Clone, PartialEq, Debug)]
 pub enum Seen {
     Answered(Outcome),
-    /// An error for which the document has no number.
+    /// An error for which R6 has no number.
     Other(ErrorCode),
     Panicked,
 }

@@ -1,4 +1,4 @@
-//! 01's "Where the Rust is not followed" as a test that a call passes through
+//! The lines of docs/DIFFERENCES.md as a test that a call passes through
 //! before it is compared. It looks at the image with the straight version's
 //! walk and never runs the crate.
 

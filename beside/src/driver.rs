@@ -1,6 +1,7 @@
 //! The stepped form and the driver over it against the one-call form: same
-//! answer, image and buffer, and the services that the document lists.
+//! answer, image and buffer, and the services that R9 lists.
 
+use crate::by_store::{names_failure, on_store, WAYS};
 use crate::host::{apply, Host};
 use crate::images::{key, make, KEYS, KINDS};
 use crate::ours;
@@ -8,7 +9,6 @@ use crate::prng::Prng;
 use crate::report::hex;
 use crate::stepping::{start, Drive};
 use crate::straight::{self, services, Answer, Call, Outcome, Refusal, Service};
-use stilefray::Store;
 
 fn call<'a>(rng: &mut Prng, s: usize, stretch: &'a [u8]) -> Call<'a> {
     let key = key(rng);
@@ -25,25 +25,14 @@ fn call<'a>(rng: &mut Prng, s: usize, stretch: &'a [u8]) -> Call<'a> {
     }
 }
 
-fn by_store(host: &mut Host, s: usize, n: usize, call: Call, buffer: &mut [u8]) -> Outcome {
-    let mut region = vec![0xa5; s];
-    let mut store = Store::new(host, &mut region, n);
-    match call {
-        Call::Get { key } => ours::length(store.get_key(key, buffer)),
-        Call::Append { key, value } => ours::written(store.append_key(key, value)),
-        Call::Invalidate { key } => ours::written(store.invalidate_key(key)),
-        Call::Zeroise { key } => ours::written(store.zeroise_key(key)),
-        Call::Collect => ours::freed(store.garbage_collect()),
-        Call::Initialise { key } => ours::outcome(store.initialise(key)),
-    }
-}
-
 /// What a run must come to: answer, image, buffer and services done.
 struct Wanted {
     outcome: Outcome,
     image: Vec<u8>,
     buffer: Vec<u8>,
     done: Vec<Service>,
+    /// The service that must fail, if one must.
+    fails: Option<Service>,
 }
 
 fn wanted(
@@ -60,10 +49,11 @@ fn wanted(
     if let Some(at) = fails_at.filter(|at| *at < list.len()) {
         list[..at].iter().for_each(|service| apply(&mut after, s, service));
         let outcome = Err(Refusal::FlashFailed);
-        return Wanted { outcome, image: after, buffer, done: list[..at].to_vec() };
+        let (done, fails) = (list[..at].to_vec(), Some(list[at].clone()));
+        return Wanted { outcome, image: after, buffer, done, fails };
     }
     let outcome = ours::run(&mut after, s, n, call, &mut buffer);
-    Wanted { outcome, image: after, buffer, done: list }
+    Wanted { outcome, image: after, buffer, done: list, fails: None }
 }
 
 #[derive(Default)]
@@ -130,10 +120,15 @@ fn operation(
     counts.failed += u64::from(outcome == Err(Refusal::FlashFailed));
     counts.services += host.done.len() as u64;
 
-    let mut host = Host::new(image, s, slow, fails_at, rng.clone());
-    let mut buffer = fill.to_vec();
-    let outcome = by_store(&mut host, s, n, call, &mut buffer);
-    check("store", &want, outcome, &host, &buffer).map_err(told)?;
+    for (form, way) in WAYS {
+        let mut buffer = fill.to_vec();
+        let host = Host::new(image, s, slow, fails_at, rng.clone());
+        let (said, host) = on_store(way, host, n, call, &mut buffer);
+        if !names_failure(&said, want.fails.as_ref(), want.done.len()) {
+            return Err(told(format!("{form}: {said:?}, and {:?} had to fail", want.fails)));
+        }
+        check(form, &want, ours::outcome(said), &host, &buffer).map_err(told)?;
+    }
     counts.by_store += 1;
     Ok(())
 }
@@ -204,7 +199,7 @@ pub fn run(seed: u64, rounds: usize) -> Result<(), String> {
         }
     }
     println!(
-        "driver: {begun} starts; {} operations stepped, {} by the store;",
+        "driver: {begun} starts; {} operations stepped, {} by the store in each of its ways;",
         counts.stepped, counts.by_store
     );
     println!(

@@ -1,4 +1,4 @@
-//! Each line of 01's "Where the Rust is not followed", shown live on a small
+//! Each line of docs/DIFFERENCES.md, D1 to D8, shown live on a small
 //! input. The crate runs in a child process with a time limit, since some of
 //! its answers are asserts and loops without end.
 
@@ -71,7 +71,7 @@ fn show(index: usize, fault: &Fault) -> bool {
     let ours = in_turn(fault, ours::run);
     let straight = in_turn(fault, straight::run);
     println!("  {:?} {}", fault.line, fault.input);
-    println!("     document: {}", fault.says);
+    println!("     the rules: {}", fault.says);
     println!("     the Rust: {}", crate_said.join("; then "));
     let mine: Vec<String> = ours.0.iter().map(|o| format!("{o:?}")).collect();
     println!("     ours:     {}", mine.join("; then "));
@@ -81,7 +81,7 @@ fn show(index: usize, fault: &Fault) -> bool {
         println!("     the crate does not show the fault: {:?} expected", fault.theirs);
     }
     if !right {
-        println!("     ours is not what the document says: {:?} expected", fault.ours);
+        println!("     ours is not what the rules say: {:?} expected", fault.ours);
     }
     faulty && right
 }

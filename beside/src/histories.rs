@@ -1,5 +1,5 @@
 //! Long histories from blank chips: our store, the straight version and, on
-//! every call that no line of 01's list touches, the crate. Three images are
+//! every call that no line of docs/DIFFERENCES.md touches, the crate. Three images are
 //! kept in step and compared whole after each call.
 
 use crate::choose::{Habit, STRETCH};
@@ -151,7 +151,7 @@ fn history(
 
 /// Histories until so many calls were compared with the crate. Spoilt ones
 /// have wrong checksums on the way: such images are not well-formed and so
-/// outside the document's domain, but no line of its list speaks of them, and
+/// outside the domain of R14.1, but no line of R14.2's speaks of them, and
 /// InvalidCheckSum is met on no others.
 pub fn run(seed: u64, limit: u64, spoilt: bool) -> Result<(), String> {
     let mut rng = Prng::new(seed);

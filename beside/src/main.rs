@@ -1,9 +1,10 @@
-//! The store run beside the crate and beside a straight version of its document.
+//! The store run beside the crate and beside a straight version of its requirements.
 
 mod afternoons;
 mod bench;
 mod bench_chip;
 mod bench_steps;
+mod by_store;
 mod choose;
 mod crate_side;
 mod domain;

@@ -19,21 +19,21 @@ pub struct Lent {
 }
 
 /// A step on copies: its request, and whether it left everything alone.
-fn tried(running: Running, reply: Reply, lent: &Lent) -> (Request, bool) {
+fn tried(op: Operation, reply: Reply, lent: &Lent) -> (Request, bool) {
     let mut copy = lent.clone();
-    let mut after = running;
+    let mut after = Running::from_numbers(op);
     let request = after.step(reply, &mut copy.region, &copy.value, &mut copy.buffer);
-    let alone = after == running && copy.region == lent.region && copy.buffer == lent.buffer;
+    let alone = after.numbers() == op && copy.region == lent.region && copy.buffer == lent.buffer;
     (request, alone)
 }
 
-fn refused(what: &str, running: Running, reply: Reply, lent: &Lent) -> Result<u64, String> {
-    let (request, alone) = tried(running, reply, lent);
+fn refused(what: &str, op: Operation, reply: Reply, lent: &Lent) -> Result<u64, String> {
+    let (request, alone) = tried(op, reply, lent);
     if request == BAD && alone {
         return Ok(1);
     }
     let whole = if alone { "" } else { ", and something was altered" };
-    Err(format!("{what}, {reply:?}: {request:?}{whole} on {running:?}"))
+    Err(format!("{what}, {reply:?}: {request:?}{whole} on {op:?}"))
 }
 
 fn resized(bytes: &[u8], rng: &mut Prng) -> Vec<u8> {
@@ -49,7 +49,7 @@ fn resized(bytes: &[u8], rng: &mut Prng) -> Vec<u8> {
 /// Wrong lengths, also where the reply is a failure: BadCall comes first.
 fn lengths(
     rng: &mut Prng,
-    running: Running,
+    op: Operation,
     right: Reply,
     lent: &Lent,
     call: Call,
@@ -57,29 +57,28 @@ fn lengths(
     let reply = if rng.one_in(2) && right != Reply::Begin { Reply::Failed } else { right };
     let mut wrong = lent.clone();
     wrong.region = resized(&lent.region, rng);
-    let mut count = refused("region buffer's length", running, reply, &wrong)?;
+    let mut count = refused("region buffer's length", op, reply, &wrong)?;
     let mut wrong = lent.clone();
     match call {
         Call::Append { .. } => wrong.value = resized(&lent.value, rng),
         Call::Get { .. } => wrong.buffer = resized(&lent.buffer, rng),
         _ => return Ok(count),
     }
-    count += refused("lent length", running, reply, &wrong)?;
+    count += refused("lent length", op, reply, &wrong)?;
     Ok(count)
 }
 
-fn replies(running: Running, right: Reply, lent: &Lent) -> Result<u64, String> {
+fn replies(op: Operation, right: Reply, lent: &Lent) -> Result<u64, String> {
     let first = right == Reply::Begin;
     let mut count = 0;
     for reply in REPLIES.into_iter().filter(|reply| (*reply == Reply::Begin) != first) {
-        count += refused("reply out of turn", running, reply, lent)?;
+        count += refused("reply out of turn", op, reply, lent)?;
     }
     Ok(count)
 }
 
 /// Replies that are none of the four, by the C side's numbers.
-fn no_reply(running: Running, lent: &Lent) -> Result<u64, String> {
-    let op = running.numbers();
+fn no_reply(op: Operation, lent: &Lent) -> Result<u64, String> {
     for reply in [4, 255, u32::MAX] {
         let mut copy = lent.clone();
         let got = step(op, reply, &mut copy.region, &copy.value, &mut copy.buffer);
@@ -159,17 +158,17 @@ fn within(op: &Operation, request: Request) -> bool {
 
 /// A forged operation: BadCall and everything left alone, or a request within
 /// the chip that its numbers name.
-fn forged(rng: &mut Prng, running: Running, lent: &Lent) -> Result<u64, String> {
+fn forged(rng: &mut Prng, kept: Operation, lent: &Lent) -> Result<u64, String> {
     let reply = rng.pick(&REPLIES);
-    let op = broken(rng, running.numbers());
+    let op = broken(rng, kept);
     let mut fitting = lent.clone();
     if op.s <= 5_000 {
         fitting.region.resize(op.s, 3);
     }
-    refused("broken operation", Running::from_numbers(op), reply, &fitting)?;
-    let op = altered(rng, running.numbers());
+    refused("broken operation", op, reply, &fitting)?;
+    let op = altered(rng, kept);
     fitting.region.resize(op.s, 3);
-    let (request, alone) = tried(Running::from_numbers(op), reply, &fitting);
+    let (request, alone) = tried(op, reply, &fitting);
     if request == BAD && !alone {
         return Err(format!("BadCall altered something on {op:?}, {reply:?}"));
     }
@@ -182,7 +181,7 @@ fn forged(rng: &mut Prng, running: Running, lent: &Lent) -> Result<u64, String> 
 /// All of these where an operation waits for `right` or one of its kind.
 pub fn running(
     rng: &mut Prng,
-    op: Running,
+    op: Operation,
     right: Reply,
     lent: &Lent,
     call: Call,
@@ -192,7 +191,7 @@ pub fn running(
 }
 
 /// Steps after the end.
-pub fn ended(op: Running, lent: &Lent) -> Result<u64, String> {
+pub fn ended(op: Operation, lent: &Lent) -> Result<u64, String> {
     for reply in REPLIES {
         refused("step after the end", op, reply, lent)?;
     }

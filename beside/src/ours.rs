@@ -3,7 +3,8 @@
 use crate::straight::{Answer, Call, Outcome, Refusal};
 use stilefray::image;
 
-pub fn refusal(r: stilefray::Refusal) -> Refusal {
+/// A failed service is one, whatever is known of it.
+pub fn refusal<F>(r: stilefray::Refusal<F>) -> Refusal {
     use stilefray::Refusal as R;
     match r {
         R::BadGeometry => Refusal::BadGeometry,
@@ -17,11 +18,12 @@ pub fn refusal(r: stilefray::Refusal) -> Refusal {
         R::BufferTooSmall(full) => Refusal::BufferTooSmall(full),
         R::InvalidCheckSum => Refusal::InvalidCheckSum,
         R::BadCall => Refusal::BadCall,
-        R::FlashFailed => Refusal::FlashFailed,
+        R::FlashFailed(_) => Refusal::FlashFailed,
+        other => panic!("the library gave number {}, which is none of the twelve", other.number()),
     }
 }
 
-pub fn outcome(answer: stilefray::Answer) -> Outcome {
+pub fn outcome<F>(answer: stilefray::Answer<F>) -> Outcome {
     use stilefray::Success as Y;
     match answer {
         Ok(Y::Complete(length)) => Ok(Answer::Complete(length)),

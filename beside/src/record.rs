@@ -6,7 +6,7 @@
 //! op 0 is a new blank chip (key holds S, length N), 1 get, 2 append,
 //! 3 invalidate, 4 zeroise, 5 collect, 6 initialise, 9 the end of the list.
 //! length is get's buffer's or append's value's; both start as
-//! pattern(seed)[i] = (seed + 7 i) mod 256. number is 0 or the document's
+//! pattern(seed)[i] = (seed + 7 i) mod 256. number is 0 or R6's
 //! number of the refusal; value the length that get names, the bytes that
 //! collect freed, or 1 for an initialise that wrote; buffer and image are
 //! checksums of get's whole buffer and of the whole image after the call.
@@ -64,7 +64,7 @@ fn columns(outcome: Outcome) -> (u8, usize) {
     }
 }
 
-/// One call on the crate, and its line; None if a line of the document's list
+/// One call on the crate, and its line; None if a line of docs/DIFFERENCES.md
 /// touches it, and then it is not made.
 fn line(
     image: &mut [u8],

@@ -5,6 +5,7 @@ use crate::misuse::{self, Lent};
 use crate::ours;
 use crate::prng::Prng;
 use crate::straight::{Call, Outcome};
+use stilefray::ffi::Operation;
 use stilefray::stepped::{Reply, Request, Running};
 use stilefray::{Flash, NotDone, Refusal};
 
@@ -29,21 +30,27 @@ fn serve(host: &mut Host, request: Request, region: &mut [u8]) -> Reply {
     match done {
         Ok(()) => Reply::Done,
         Err(NotDone::NotReady) => Reply::NotReady,
-        Err(NotDone::Failed) => Reply::Failed,
+        Err(NotDone::Failed(_)) => Reply::Failed,
     }
 }
 
 /// What the last step left, to compare the next one with.
 struct Before {
     request: Request,
-    running: Running,
+    running: Operation,
     region: Vec<u8>,
     buffer: Vec<u8>,
 }
 
 /// A step may alter the region buffer only in the bytes that it asks to write,
 /// get's buffer only where it answers, and nothing at all on "not ready".
-fn lawful(before: &Before, reply: Reply, request: Request, running: Running, lent: &Lent) -> bool {
+fn lawful(
+    before: &Before,
+    reply: Reply,
+    request: Request,
+    running: Operation,
+    lent: &Lent,
+) -> bool {
     let answered = matches!(request, Request::Answer(_));
     let (from, to) = match request {
         Request::Write { from, to, .. } => (from, to),
@@ -88,20 +95,21 @@ impl Drive<'_> {
         loop {
             lent.value = self.lend_value(reply == Reply::Done && host.done.len() == self.n);
             if self.rng.one_in(6) {
-                self.misused += misuse::running(self.rng, running, reply, &lent, self.call)?;
+                self.misused +=
+                    misuse::running(self.rng, running.numbers(), reply, &lent, self.call)?;
             }
             let before = Before {
                 request,
-                running,
+                running: running.numbers(),
                 region: lent.region.clone(),
                 buffer: lent.buffer.clone(),
             };
             request = running.step(reply, &mut lent.region, &lent.value, &mut lent.buffer);
-            if !lawful(&before, reply, request, running, &lent) {
+            if !lawful(&before, reply, request, running.numbers(), &lent) {
                 return Err(format!("{reply:?}, {request:?}: the step altered what it may not"));
             }
             if let Request::Answer(answer) = request {
-                self.misused += misuse::ended(running, &lent)?;
+                self.misused += misuse::ended(running.numbers(), &lent)?;
                 *buffer = lent.buffer;
                 return Ok(ours::outcome(answer));
             }

@@ -1,5 +1,5 @@
-//! The document 01 said straight in Rust: the second opinion beside the store.
-//! Written from the document alone; no line of it comes from either store.
+//! The requirements said straight in Rust: the second opinion beside the store.
+//! Written from their text alone; no line of it comes from either store.
 
 pub mod checksum;
 pub mod services;

@@ -12,7 +12,7 @@ pub struct Tally {
     /// By the refusal's number; 0 Complete, 13 Written, 14 Freed.
     answers: [[u64; 15]; 6],
     /// Touched calls that were tried on the crate all the same, and how many
-    /// of them it answered otherwise than the document.
+    /// of them it answered otherwise than the rules.
     tried: [[(u64, u64); 8]; 6],
     /// By the damage's line; 8 for damage without a line.
     pub damaged: [u64; 9],
@@ -82,7 +82,7 @@ impl Tally {
     }
 
     /// How narrow the lines are: a touched call that the crate answers as the
-    /// document does need not have been kept from it.
+    /// rules do need not have been kept from it.
     pub fn print_tried(&self) {
         println!("  touched calls tried on small chips, and how many the crate answers otherwise:");
         for op in 0..6 {

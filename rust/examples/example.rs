@@ -1,31 +1,34 @@
-use stilefray::{Flash, NotDone, Refusal, Store};
+use std::convert::Infallible;
+use stilefray::{Flash, NotDone, Store, StoreRefusal};
 
 /// Stands for the chip: 4 regions of 1,024 bytes.
 struct Chip([[u8; 1024]; 4]);
 
 impl Flash for Chip {
-    fn read_region(&mut self, region: usize, buffer: &mut [u8]) -> Result<(), NotDone> {
+    type Error = Infallible; // memory does not fail; a driver's own error type stands here
+
+    fn read_region(&mut self, region: usize, buffer: &mut [u8]) -> Result<(), NotDone<Infallible>> {
         buffer.copy_from_slice(&self.0[region]);
         Ok(())
     }
 
-    fn write(&mut self, place: usize, bytes: &[u8]) -> Result<(), NotDone> {
+    fn write(&mut self, place: usize, bytes: &[u8]) -> Result<(), NotDone<Infallible>> {
         for (old, new) in self.0[place / 1024][place % 1024..].iter_mut().zip(bytes) {
             *old &= new;
         }
         Ok(())
     }
 
-    fn erase_region(&mut self, region: usize) -> Result<(), NotDone> {
+    fn erase_region(&mut self, region: usize) -> Result<(), NotDone<Infallible>> {
         self.0[region] = [255; 1024];
         Ok(())
     }
 }
 
-fn main() -> Result<(), Refusal> {
+fn main() -> Result<(), StoreRefusal<Chip>> {
     let mut region_buffer = [0u8; 1024];
     let mut store = Store::new(Chip([[0; 1024]; 4]), &mut region_buffer, 4);
-    store.initialise(1000)?;
+    store.initialise(1000)?; // the main key: any other than the chip's own erases the chip
     store.append_key(101, b"R1.1 G1 B0.9")?;
     let mut buffer = [0u8; 64];
     let length = store.get_key(101, &mut buffer)?;

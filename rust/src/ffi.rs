@@ -10,6 +10,7 @@ compile_error!("libstilefray.a is built for x86-64, where a usize has 64 bits");
 
 /// An answer in numbers.
 #[repr(C)]
+#[must_use]
 #[derive(Clone, Copy, Debug, PartialEq, Eq)]
 pub struct AnswerNumbers {
     /// 0 refused, 1 complete, 2 written, 3 freed.
@@ -78,6 +79,7 @@ impl Operation {
 
 /// What a start hands out.
 #[repr(C)]
+#[must_use]
 #[derive(Clone, Copy, Debug, PartialEq, Eq)]
 pub struct StartNumbers {
     /// 0: `op` runs. Else the refusal's number, and `op` is all zeros.
@@ -106,6 +108,7 @@ pub struct RequestNumbers {
 
 /// What a step hands back.
 #[repr(C)]
+#[must_use]
 #[derive(Clone, Copy, Debug, PartialEq, Eq)]
 pub struct SteppedNumbers {
     /// The operation as it now stands.
@@ -179,6 +182,7 @@ pub fn initialise(image: &mut [u8], s: usize, n: usize, key: u64) -> AnswerNumbe
 
 /// `stilefray_checksum`.
 #[inline]
+#[must_use]
 pub fn checksum(bytes: &[u8]) -> u32 {
     // SAFETY: the slice is valid for its length, and nothing else is lent.
     unsafe { stilefray_checksum(bytes.as_ptr(), bytes.len()) }

@@ -1,14 +1,42 @@
-//! The host's flash, and one service of a running operation done over it.
-use crate::refusal::Answer;
-use crate::stepped::{Reply, Request, Running};
+//! The host's flash.
+use core::error::Error;
+use core::fmt;
+use core::task::Waker;
 
-/// Why a flash service is not done.
+/// Why a flash service is not done. `E` is the flash's own error.
+///
+/// An error of the host's own becomes `Failed` by itself, so that `?` serves in the functions of [`Flash`].
 #[derive(Clone, Copy, Debug, PartialEq, Eq)]
-pub enum NotDone {
+pub enum NotDone<E> {
     /// Nothing was begun, or it is not over yet: the same call will be made again.
     NotReady,
-    /// It cannot be done. The operation ends with [`Refusal::FlashFailed`](crate::Refusal::FlashFailed).
-    Failed,
+    /// It cannot be done. The operation ends with [`Refusal::FlashFailed`](crate::Refusal::FlashFailed), which carries this error.
+    Failed(E),
+}
+
+impl<E> From<E> for NotDone<E> {
+    fn from(error: E) -> Self {
+        NotDone::Failed(error)
+    }
+}
+
+impl<E> fmt::Display for NotDone<E> {
+    fn fmt(&self, f: &mut fmt::Formatter<'_>) -> fmt::Result {
+        f.write_str(match self {
+            NotDone::NotReady => "the flash is not ready",
+            NotDone::Failed(_) => "the flash failed",
+        })
+    }
+}
+
+/// The source is the flash's own error.
+impl<E: Error + 'static> Error for NotDone<E> {
+    fn source(&self) -> Option<&(dyn Error + 'static)> {
+        match self {
+            NotDone::NotReady => None,
+            NotDone::Failed(error) => Some(error),
+        }
+    }
 }
 
 /// The host's flash: tickv's `FlashController`.
@@ -16,110 +44,93 @@ pub enum NotDone {
 /// A call that answers [`NotDone::NotReady`] is made again with the same arguments until it answers otherwise. So a slow flash begins
 /// the service at the first call, says NotReady while it is under way, and says `Ok` or `Failed` once it is over. (tickv does not
 /// repeat a write or an erase that was not ready; here it is repeated, and the answer waits for it.)
+///
+/// Two things end the asking before the service is over: the store's [limit](crate::Store::set_limit), and an operation that is given
+/// up ([`Underway`](crate::Underway) dropped). The next call may then be another one, while the flash is still busy: it has to see to
+/// it that the old service is over before it begins the new one, by saying NotReady or by waiting, and must not take the end of the
+/// old one for that of the new.
+///
+/// What is lent to a call is lent for that call alone. While a write is not ready it is called again with the same bytes, but a flash
+/// that goes on reading them between two calls, or writing to a buffer, as by DMA, needs a copy of its own.
+///
+/// ```
+/// use stilefray::{Flash, NotDone, Store};
+///
+/// #[derive(Debug, PartialEq)]
+/// enum BusError {
+///     Stuck,
+/// }
+///
+/// /// A flash behind a bus that always fails.
+/// struct Chip;
+///
+/// fn transfer() -> Result<(), BusError> {
+///     Err(BusError::Stuck)
+/// }
+///
+/// impl Flash for Chip {
+///     type Error = BusError;
+///
+///     fn read_region(&mut self, _region: usize, _buffer: &mut [u8]) -> Result<(), NotDone<BusError>> {
+///         Ok(transfer()?)
+///     }
+///     fn write(&mut self, _place: usize, _bytes: &[u8]) -> Result<(), NotDone<BusError>> {
+///         Ok(transfer()?)
+///     }
+///     fn erase_region(&mut self, _region: usize) -> Result<(), NotDone<BusError>> {
+///         Ok(transfer()?)
+///     }
+/// }
+///
+/// use stilefray::{Failure, Reason, Refusal, Service};
+/// let mut region_buffer = [0u8; 64];
+/// let refusal = Store::new(Chip, &mut region_buffer, 4).get_key(5, &mut []).unwrap_err();
+/// let failure = Failure { service: Service::Read { region: 1 }, reason: Reason::Failed(BusError::Stuck) };
+/// assert_eq!(refusal, Refusal::FlashFailed(failure));
+/// ```
 pub trait Flash {
-    /// Reads the region's bytes into `buffer`, which has the length of one region.
-    fn read_region(&mut self, region: usize, buffer: &mut [u8]) -> Result<(), NotDone>;
+    /// The flash's own error. It comes back in [`Refusal::FlashFailed`](crate::Refusal::FlashFailed). A flash that cannot fail has
+    /// [`Infallible`](core::convert::Infallible).
+    type Error;
+
+    /// Reads the region's bytes into `buffer`, which has the length of one region. While it is not ready the buffer may hold anything.
+    fn read_region(&mut self, region: usize, buffer: &mut [u8]) -> Result<(), NotDone<Self::Error>>;
 
     /// Writes the bytes at an image place: region `place / s`, byte `place % s` in it. They lie within one region. Each byte of the
     /// flash becomes the bitwise AND of old and new.
-    fn write(&mut self, place: usize, bytes: &[u8]) -> Result<(), NotDone>;
+    fn write(&mut self, place: usize, bytes: &[u8]) -> Result<(), NotDone<Self::Error>>;
 
     /// Makes every byte of the region 255.
-    fn erase_region(&mut self, region: usize) -> Result<(), NotDone>;
+    fn erase_region(&mut self, region: usize) -> Result<(), NotDone<Self::Error>>;
+
+    /// Called by the futures after a service has said NotReady: see to it that the waker is woken once it is worth asking again.
+    ///
+    /// As it stands it wakes at once, so that an executor asks again at its next turn: right, though busy, for every flash. A flash
+    /// whose interrupt says when it is done keeps a clone of the waker, and its handler wakes it. The service may have come to its end
+    /// between the call that said NotReady and this one: so keep the waker first, then look once more, and wake it if the service is
+    /// over; otherwise that interrupt is lost and the future sleeps for ever. Only the last waker counts; an earlier one may be
+    /// dropped. The blocking calls and [`serve`](crate::Underway::serve) do not call it.
+    fn wake_when_ready(&mut self, waker: &Waker) {
+        waker.wake_by_ref();
+    }
 }
 
 impl<F: Flash + ?Sized> Flash for &mut F {
-    fn read_region(&mut self, region: usize, buffer: &mut [u8]) -> Result<(), NotDone> {
+    type Error = F::Error;
+
+    fn read_region(&mut self, region: usize, buffer: &mut [u8]) -> Result<(), NotDone<F::Error>> {
         (**self).read_region(region, buffer)
     }
 
-    fn write(&mut self, place: usize, bytes: &[u8]) -> Result<(), NotDone> {
+    fn write(&mut self, place: usize, bytes: &[u8]) -> Result<(), NotDone<F::Error>> {
         (**self).write(place, bytes)
     }
 
-    fn erase_region(&mut self, region: usize) -> Result<(), NotDone> {
+    fn erase_region(&mut self, region: usize) -> Result<(), NotDone<F::Error>> {
         (**self).erase_region(region)
     }
-}
 
-/// What came of one service.
-#[derive(Clone, Copy, Debug, PartialEq, Eq)]
-pub enum Served {
-    /// The flash was not ready: the operation waits for the same service.
-    NotReady,
-    /// The service is done, and the operation goes on with another.
-    More,
-    /// The operation has answered, and has ended; but `Err(BadCall)` leaves it as it was before, running or not.
-    Answer(Answer),
-}
-
-impl Running {
-    /// Does one flash service of the operation, so that a main loop can do other work between two. Lend the same `region`, `value` and
-    /// `buffer` each time, as for [`step`](Running::step).
-    ///
-    /// ```
-    /// use stilefray::{stepped::Running, Flash, NotDone, Refusal, Served, Success};
-    /// # struct Chip([u8; 256]);
-    /// # impl Flash for Chip {
-    /// #     fn read_region(&mut self, region: usize, buffer: &mut [u8]) -> Result<(), NotDone> {
-    /// #         Ok(buffer.copy_from_slice(&self.0[region * 64..][..64]))
-    /// #     }
-    /// #     fn write(&mut self, place: usize, bytes: &[u8]) -> Result<(), NotDone> {
-    /// #         Ok(self.0[place..].iter_mut().zip(bytes).for_each(|(old, new)| *old &= new))
-    /// #     }
-    /// #     fn erase_region(&mut self, region: usize) -> Result<(), NotDone> {
-    /// #         Ok(self.0[region * 64..][..64].fill(255))
-    /// #     }
-    /// # }
-    /// # let mut chip = Chip([255; 256]);
-    /// let mut region = [0u8; 64];
-    /// let mut running = Running::append_key(64, 4, 1, 3)?;
-    /// let mut turns = 0;
-    /// let answer = loop {
-    ///     turns += 1; // the main loop's other work
-    ///     if let Served::Answer(answer) = running.serve(&mut chip, &mut region, b"abc", &mut []) {
-    ///         break answer;
-    ///     }
-    /// };
-    /// assert_eq!((answer, turns), (Ok(Success::Written), 5)); // four reads and a write
-    /// # Ok::<(), Refusal>(())
-    /// ```
-    pub fn serve<F: Flash + ?Sized>(&mut self, flash: &mut F, region: &mut [u8], value: &[u8], buffer: &mut [u8]) -> Served {
-        // An operation that has begun says again what it waits for, and alters nothing.
-        let asked = if self.is_fresh() { Reply::Begin } else { Reply::NotReady };
-        let done = match self.step(asked, region, value, buffer) {
-            Request::Answer(answer) => return Served::Answer(answer),
-            request => service(request, flash, region),
-        };
-        if done == Err(NotDone::NotReady) {
-            return Served::NotReady;
-        }
-        match self.step(reply_to(done), region, value, buffer) {
-            Request::Answer(answer) => Served::Answer(answer),
-            _ => Served::More,
-        }
-    }
-}
-
-/// The service that a request asks for. A write's bytes lie in the region buffer, that is proved; bytes that did not would fail.
-pub(crate) fn service<F: Flash + ?Sized>(request: Request, flash: &mut F, region: &mut [u8]) -> Result<(), NotDone> {
-    match request {
-        Request::Read { region: number } => flash.read_region(number, region),
-        Request::Write { from, to, place } => match region.get(from..to) {
-            Some(bytes) => flash.write(place, bytes),
-            None => Err(NotDone::Failed),
-        },
-        Request::Erase { region: number } => flash.erase_region(number),
-        Request::Answer(_) => Ok(()),
-    }
-}
-
-/// What the host says of a service.
-#[inline]
-pub(crate) fn reply_to(done: Result<(), NotDone>) -> Reply {
-    match done {
-        Ok(()) => Reply::Done,
-        Err(NotDone::NotReady) => Reply::NotReady,
-        Err(NotDone::Failed) => Reply::Failed,
+    fn wake_when_ready(&mut self, waker: &Waker) {
+        (**self).wake_when_ready(waker);
     }
 }

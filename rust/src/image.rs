@@ -2,7 +2,7 @@
 //!
 //! `s` is 64 to 4,096, `n` is 1 to 64 and the image is exactly `n * s` bytes, or the call is refused as
 //! [`BadGeometry`](Refusal::BadGeometry). A blank chip is an image whose every byte is 255. The calls alter the image as a chip would
-//! be altered: a write only clears bits, and an erase makes every byte of one region 255.
+//! be altered: a write only clears bits, and an erase makes every byte of one region 255. What each does in full is R5 of docs/RULES.md.
 //!
 //! ```
 //! use stilefray::{image, Refusal};
@@ -24,66 +24,56 @@
 use crate::ffi;
 use crate::refusal::{Answer, Refusal, Success};
 
-/// The value of a key, copied to the front of `buffer`; its length is the answer, and the buffer's bytes after it stay.
+/// The value of a key, copied to the front of `buffer`; its length is the answer, and the buffer's bytes after it stay (R5.2).
 ///
 /// Refused in this order: BadGeometry, BadKey; then the first region in the key's probe order that decides says UnsupportedVersion,
 /// CorruptData, BufferTooSmall or InvalidCheckSum, and where none decides it is KeyNotFound. BufferTooSmall gives the value's full
 /// length and leaves the buffer full of the value's first bytes; InvalidCheckSum leaves the value in the buffer. The other refusals
 /// leave the buffer as it was.
 pub fn get_key(image: &[u8], s: usize, n: usize, key: u64, buffer: &mut [u8]) -> Result<usize, Refusal> {
-    answer_of(ffi::get_key(image, s, n, key, buffer)).map(Success::value)
+    ffi::get_key(image, s, n, key, buffer).answer().map(Success::value)
 }
 
 /// Stores a value of at most 4,079 bytes under a key that has no live record: one write, in the first region of the key's probe order
-/// that has room.
+/// that has room (R5.3, R5.4).
 ///
 /// Refused in this order: BadGeometry, BadKey, ObjectTooLarge; then, as the regions are walked in probe order, UnsupportedVersion,
 /// CorruptData or KeyAlreadyExists by the first that decides; then FlashFull, or CorruptData where the place is not blank. A refusal
 /// leaves the image as it was.
 pub fn append_key(image: &mut [u8], s: usize, n: usize, key: u64, value: &[u8]) -> Result<(), Refusal> {
-    answer_of(ffi::append_key(image, s, n, key, value)).map(drop)
+    ffi::append_key(image, s, n, key, value).answer().map(drop)
 }
 
 /// Makes the key's record dead: one write of one byte, its second, with the top bit cleared. The value stays readable on the chip
-/// until its region is collected; [`zeroise_key`] does not leave it there.
+/// until its region is collected; [`zeroise_key`] does not leave it there (R5.5).
 ///
 /// Refused in this order: BadGeometry, BadKey; then UnsupportedVersion or CorruptData by the first region that decides, or
 /// KeyNotFound. The checksum is not looked at. A refusal leaves the image as it was.
 pub fn invalidate_key(image: &mut [u8], s: usize, n: usize, key: u64) -> Result<(), Refusal> {
-    answer_of(ffi::invalidate_key(image, s, n, key)).map(drop)
+    ffi::invalidate_key(image, s, n, key).answer().map(drop)
 }
 
-/// Makes the key's record dead and its value and checksum zeros: one write over the whole record, which keeps its length and key.
+/// Makes the key's record dead and its value and checksum zeros: one write over the whole record, which keeps its length and key (R5.6).
 ///
 /// Refused as [`invalidate_key`] is.
 pub fn zeroise_key(image: &mut [u8], s: usize, n: usize, key: u64) -> Result<(), Refusal> {
-    answer_of(ffi::zeroise_key(image, s, n, key)).map(drop)
+    ffi::zeroise_key(image, s, n, key).answer().map(drop)
 }
 
-/// Erases each region that has records, all of them dead. The answer is the bytes freed, `s` for each region erased.
+/// Erases each region that has records, all of them dead. The answer is the bytes freed, `s` for each region erased (R5.7, R5.8).
 ///
 /// Refused: BadGeometry; then UnsupportedVersion or CorruptData where, in number order, a region has a bad place before any live
 /// record. The regions before it are already collected then, it and the later ones stand.
 pub fn garbage_collect(image: &mut [u8], s: usize, n: usize) -> Result<usize, Refusal> {
-    answer_of(ffi::garbage_collect(image, s, n)).map(Success::value)
+    ffi::garbage_collect(image, s, n).answer().map(Success::value)
 }
 
-/// Sees to it that the chip is one of this store's: `key` is the main key.
+/// Sees to it that the chip is one of this store's: `key` is the main key (R5.9). Call it with the same key each time: with another one,
+/// **every record on the chip is erased**.
 ///
 /// `Complete(0)`: the main key was there with an empty value, nothing changed. `Written`: it was not, or its record or one before it
 /// was bad; every region was erased and the main key appended with an empty value. Refused: BadGeometry, BadKey, which leave the image
 /// as it was.
 pub fn initialise(image: &mut [u8], s: usize, n: usize, key: u64) -> Answer {
-    answer_of(ffi::initialise(image, s, n, key))
-}
-
-/// An answer by its numbers. The library gives no kind but 0 to 3 (that is proved of it); any other is taken for a refusal.
-#[inline]
-pub(crate) fn answer_of(numbers: ffi::AnswerNumbers) -> Answer {
-    match numbers.kind {
-        1 => Ok(Success::Complete(numbers.value)),
-        2 => Ok(Success::Written),
-        3 => Ok(Success::Freed(numbers.value)),
-        _ => Err(Refusal::of(numbers.refusal, numbers.value)),
-    }
+    ffi::initialise(image, s, n, key).answer()
 }

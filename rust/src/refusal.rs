@@ -1,14 +1,36 @@
-//! What the store answers: the twelve refusals and the three ways of success.
+//! What the store answers: the refusals and the three ways of success.
+use crate::failure::Failure;
+use crate::ffi::AnswerNumbers;
 use core::error::Error;
 use core::fmt;
 
-/// Why the store says no. The numbers are those of the table "When the store says no"; [`number`](Refusal::number) gives them.
+/// Why the store says no. R6 of docs/RULES.md says of each number exactly when it comes and what it leaves; [`number`](Refusal::number)
+/// gives the number.
 ///
 /// Refusals 1, 2 and 3 come first and in this order, before anything is read; in the stepped form the start gives them and runs
 /// nothing. A refusal alters no byte of the image or of a buffer, but for what get copies under 9 and 10, what collect and initialise
 /// did before, and services already done before 11 or 12.
+///
+/// `F` is what is known of a failed service. In the one-call form, where no service can fail, and in the [stepped](crate::stepped) form,
+/// where it was the host itself that said so, that is nothing, and a plain `Refusal` is meant. A [`Store`](crate::Store) answers
+/// `Refusal<Failure<E>>` ([`StoreRefusal`](crate::StoreRefusal)), which says which service it was and holds the flash's own error.
+///
+/// Where nothing says which one is meant, as in a comparison of two numbers, the plain one is written `<Refusal>::KeyNotFound`.
+///
+/// More may come in a later edition, so a `match` needs a last arm for any other:
+///
+/// ```compile_fail,E0004
+/// # use stilefray::Refusal::{self, *};
+/// fn exhaustive(refusal: Refusal) -> u32 {
+///     match refusal {
+///         BadGeometry | BadKey | ObjectTooLarge | KeyNotFound | KeyAlreadyExists | FlashFull => 1,
+///         UnsupportedVersion | CorruptData | BufferTooSmall(_) | InvalidCheckSum | BadCall | FlashFailed(()) | Unknown(_) => 2,
+///     }
+/// }
+/// ```
 #[derive(Clone, Copy, Debug, PartialEq, Eq)]
-pub enum Refusal {
+#[non_exhaustive]
+pub enum Refusal<F = ()> {
     /// 1: a region has not 64 to 4,096 bytes, the chip has not 1 to 64 regions, or the image is not exactly all its regions.
     BadGeometry,
     /// 2: the key is 0 or 2^64 - 1.
@@ -31,22 +53,27 @@ pub enum Refusal {
     /// 10: the record's checksum is not that of its header and value. The value stands in the buffer all the same.
     InvalidCheckSum,
     /// 11: the host made a mistake in the stepped form. Nothing is altered, neither the operation nor a buffer, so the host may put
-    /// its mistake right and step again.
+    /// its mistake right and step again. Of a [`Store`](crate::Store)'s operations it comes only where one is served or polled after
+    /// its end.
     BadCall,
-    /// 12: the host reported a failed service. The operation has ended; what was done to the flash before stays done.
-    FlashFailed,
+    /// 12: a service failed. The operation has ended; what was done to the flash before stays done.
+    FlashFailed(F),
+    /// A number that this crate does not know: an archive that is newer than the crate. It is the number of a refusal; or, where the
+    /// library answered or asked in a way that this crate does not know, the number of that kind of answer or of request. Of such an
+    /// operation nothing is known but what the archive's own documents say.
+    Unknown(u32),
 }
 
-impl Refusal {
-    /// The refusal's number, 1 to 12.
+impl<F> Refusal<F> {
+    /// The refusal's number, 1 to 12, or the one that is not known.
     ///
     /// ```
     /// use stilefray::Refusal;
-    /// assert_eq!(Refusal::BadGeometry.number(), 1);
-    /// assert_eq!(Refusal::BufferTooSmall(3).number(), 9);
-    /// assert_eq!(Refusal::FlashFailed.number(), 12);
+    /// let refusals: [Refusal; 4] = [Refusal::BadGeometry, Refusal::BufferTooSmall(3), Refusal::FlashFailed(()), Refusal::Unknown(13)];
+    /// assert_eq!(refusals.map(|refusal| refusal.number()), [1, 9, 12, 13]);
     /// ```
-    pub fn number(self) -> u32 {
+    #[must_use]
+    pub fn number(&self) -> u32 {
         match self {
             Refusal::BadGeometry => 1,
             Refusal::BadKey => 2,
@@ -59,12 +86,74 @@ impl Refusal {
             Refusal::BufferTooSmall(_) => 9,
             Refusal::InvalidCheckSum => 10,
             Refusal::BadCall => 11,
-            Refusal::FlashFailed => 12,
+            Refusal::FlashFailed(_) => 12,
+            Refusal::Unknown(number) => *number,
         }
     }
 
-    /// The refusal of a number, with the length that goes with 9. The library gives no number but 1 to 12 (that is proved of it);
-    /// any other is taken for BadCall, the refusal that says a call went wrong and altered nothing.
+    /// What is known of the failed service, where that is the refusal.
+    #[must_use]
+    pub fn failure(&self) -> Option<&F> {
+        match self {
+            Refusal::FlashFailed(failure) => Some(failure),
+            _ => None,
+        }
+    }
+
+    /// The refusal without what is known of a failed service: to compare, or to hand on where the flash's error does not matter.
+    #[must_use]
+    pub fn plain(self) -> Refusal {
+        self.map_failure(drop)
+    }
+
+    /// The refusal with something else in the place of what is known of a failed service.
+    #[must_use]
+    pub fn map_failure<G>(self, other: impl FnOnce(F) -> G) -> Refusal<G> {
+        self.instead_of_failure(|failure| Refusal::FlashFailed(other(failure)))
+    }
+
+    /// The refusal with another one in the place of FlashFailed.
+    fn instead_of_failure<G>(self, other: impl FnOnce(F) -> Refusal<G>) -> Refusal<G> {
+        match self {
+            Refusal::BadGeometry => Refusal::BadGeometry,
+            Refusal::BadKey => Refusal::BadKey,
+            Refusal::ObjectTooLarge => Refusal::ObjectTooLarge,
+            Refusal::KeyNotFound => Refusal::KeyNotFound,
+            Refusal::KeyAlreadyExists => Refusal::KeyAlreadyExists,
+            Refusal::FlashFull => Refusal::FlashFull,
+            Refusal::UnsupportedVersion => Refusal::UnsupportedVersion,
+            Refusal::CorruptData => Refusal::CorruptData,
+            Refusal::BufferTooSmall(length) => Refusal::BufferTooSmall(length),
+            Refusal::InvalidCheckSum => Refusal::InvalidCheckSum,
+            Refusal::BadCall => Refusal::BadCall,
+            Refusal::FlashFailed(failure) => other(failure),
+            Refusal::Unknown(number) => Refusal::Unknown(number),
+        }
+    }
+
+    /// The words for it, with those for a failed service.
+    fn say(&self, f: &mut fmt::Formatter<'_>, failed: impl FnOnce(&F, &mut fmt::Formatter<'_>) -> fmt::Result) -> fmt::Result {
+        let words = match self {
+            Refusal::BadGeometry => "the number or the size of the regions, or the image's length, is outside the rules",
+            Refusal::BadKey => "the key is 0 or 2^64 - 1",
+            Refusal::ObjectTooLarge => "the value has more than 4079 bytes",
+            Refusal::KeyNotFound => "no live record of the key",
+            Refusal::KeyAlreadyExists => "the key has a live record",
+            Refusal::FlashFull => "no region has room",
+            Refusal::UnsupportedVersion => "a record of an unknown version",
+            Refusal::CorruptData => "a record's length is wrong, or its place is not blank",
+            Refusal::BufferTooSmall(length) => return write!(f, "the buffer is too small for a value of {length} bytes"),
+            Refusal::InvalidCheckSum => "the checksum is wrong",
+            Refusal::BadCall => "the step's operation, reply or buffers are not those of a running operation",
+            Refusal::FlashFailed(failure) => return failed(failure, f),
+            Refusal::Unknown(number) => return write!(f, "the library said {number}, which this crate does not know"),
+        };
+        f.write_str(words)
+    }
+}
+
+impl Refusal {
+    /// The refusal of a number, with the length that goes with 9. The library gives no number but 1 to 12, that is proved of it.
     pub(crate) fn of(number: u32, value: usize) -> Refusal {
         match number {
             1 => Refusal::BadGeometry,
@@ -77,33 +166,39 @@ impl Refusal {
             8 => Refusal::CorruptData,
             9 => Refusal::BufferTooSmall(value),
             10 => Refusal::InvalidCheckSum,
-            12 => Refusal::FlashFailed,
-            _ => Refusal::BadCall,
+            11 => Refusal::BadCall,
+            12 => Refusal::FlashFailed(()),
+            _ => Refusal::Unknown(number),
         }
+    }
+
+    /// The refusal where no service has failed. FlashFailed cannot come there; if it did, nothing would be known of it.
+    #[inline]
+    pub(crate) fn without_failure<E>(self) -> Refusal<Failure<E>> {
+        self.instead_of_failure(|()| Refusal::Unknown(12))
     }
 }
 
 impl fmt::Display for Refusal {
     fn fmt(&self, f: &mut fmt::Formatter<'_>) -> fmt::Result {
-        let words = match *self {
-            Refusal::BadGeometry => "the number or the size of the regions, or the image's length, is outside the rules",
-            Refusal::BadKey => "the key is 0 or 2^64 - 1",
-            Refusal::ObjectTooLarge => "the value has more than 4079 bytes",
-            Refusal::KeyNotFound => "no live record of the key",
-            Refusal::KeyAlreadyExists => "the key has a live record",
-            Refusal::FlashFull => "no region has room",
-            Refusal::UnsupportedVersion => "a record of an unknown version",
-            Refusal::CorruptData => "a record's length is wrong, or its place is not blank",
-            Refusal::BufferTooSmall(len) => return write!(f, "the buffer is too small for a value of {} bytes", len),
-            Refusal::InvalidCheckSum => "the checksum is wrong",
-            Refusal::BadCall => "the step's operation, reply or buffers are not those of a running operation",
-            Refusal::FlashFailed => "the flash failed",
-        };
-        f.write_str(words)
+        self.say(f, |(), f| f.write_str("the flash failed"))
+    }
+}
+
+impl<E> fmt::Display for Refusal<Failure<E>> {
+    fn fmt(&self, f: &mut fmt::Formatter<'_>) -> fmt::Result {
+        self.say(f, fmt::Display::fmt)
     }
 }
 
 impl Error for Refusal {}
+
+/// The source is the flash's own error.
+impl<E: Error + 'static> Error for Refusal<Failure<E>> {
+    fn source(&self) -> Option<&(dyn Error + 'static)> {
+        self.failure().and_then(Error::source)
+    }
+}
 
 /// What an operation answers when it is not refused.
 #[derive(Clone, Copy, Debug, PartialEq, Eq)]
@@ -118,6 +213,7 @@ pub enum Success {
 
 impl Success {
     /// The number that the answer carries: the value's length, or the bytes freed; Written carries 0.
+    #[must_use]
     pub fn value(self) -> usize {
         match self {
             Success::Complete(len) => len,
@@ -127,5 +223,20 @@ impl Success {
     }
 }
 
-/// An operation's answer.
-pub type Answer = Result<Success, Refusal>;
+/// An operation's answer. `F` as for [`Refusal`].
+pub type Answer<F = ()> = Result<Success, Refusal<F>>;
+
+impl AnswerNumbers {
+    /// The answer that the numbers stand for. The library gives no kind but 0 to 3, that is proved of it; any other is
+    /// [`Refusal::Unknown`] with the number of the kind.
+    #[inline]
+    pub fn answer(self) -> Answer {
+        match self.kind {
+            0 => Err(Refusal::of(self.refusal, self.value)),
+            1 => Ok(Success::Complete(self.value)),
+            2 => Ok(Success::Written),
+            3 => Ok(Success::Freed(self.value)),
+            kind => Err(Refusal::Unknown(kind)),
+        }
+    }
+}

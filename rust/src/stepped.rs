@@ -1,18 +1,17 @@
 //! The stepped form: a running operation is plain data, and each step answers or asks for one flash service. It never sees the chip.
 //!
-//! Start an operation, step it first with [`Reply::Begin`], do what each [`Request`] asks, and step again with what became of it. Or
-//! let [`Running::serve`] do one service at a time over a [`Flash`](crate::Flash).
+//! Start an operation, step it first with [`Reply::Begin`], do what each [`Request`] asks, and step again with what became of it. This
+//! is for hosts that keep an operation's numbers, or have no [`Flash`](crate::Flash) to lend; a [`Store`](crate::Store) does it all and
+//! keeps the buffers apart by its types, which here is the host's to do. Which services an operation asks for, and in which order, is R9
+//! of docs/RULES.md; docs/HOST.md shows the loop.
 //!
 //! What to lend at each step:
 //!
-//! - `region`: a buffer of exactly `s` bytes. Nothing may change it while the operation runs, but for the reads that are asked for.
+//! - `region`: a buffer of exactly `s` bytes. Nothing may change it while the operation runs, but for the reads that are asked for: an
+//!   operation that waits for a write has its bytes there, so two that run at once need a buffer each (R8.9).
 //! - `value`: append's value, of the length named at the start; where the operation is no append it is not looked at, lend `&[]`. The
 //!   value lent at the step that asks for the write is the one written.
 //! - `buffer`: get's buffer, of the length named at the start; where the operation is no get it is not looked at, lend `&mut []`.
-//!
-//! The services, in this order and no others: get, reads in probe order up to the deciding region; append, all `n` reads, then one
-//! write; invalidate and zeroise, get's reads, then one write; collect, for each region a read and, where due, an erase; initialise,
-//! get's reads and, if it must erase, `n` erases in number order and append's services. A refusal ends the list where it is known.
 //!
 //! ```
 //! use stilefray::stepped::{Reply, Request, Running};
@@ -40,7 +39,6 @@
 //! # Ok::<(), Refusal>(())
 //! ```
 use crate::ffi::{self, Operation, RequestNumbers, StartNumbers};
-use crate::image::answer_of;
 use crate::refusal::{Answer, Refusal};
 
 /// What the host says of the service that was asked for last.
@@ -70,6 +68,7 @@ impl Reply {
 }
 
 /// What a step asks of the host, or its answer.
+#[must_use = "the operation waits for the service, or has answered"]
 #[derive(Clone, Copy, Debug, PartialEq, Eq)]
 pub enum Request {
     /// Read the `s` bytes of a region, image places `region * s` on, into the region buffer.
@@ -95,9 +94,25 @@ pub enum Request {
     Answer(Answer),
 }
 
-/// A running operation on a chip of `n` regions of `s` bytes. It is plain data: it holds no pointer and may be copied, or kept and
-/// taken up again later, with the region buffer of its last step: where it waits for a write, the bytes to write are there.
-#[derive(Clone, Copy, Debug, PartialEq, Eq)]
+/// A running operation on a chip of `n` regions of `s` bytes. It is plain data and holds no pointer.
+///
+/// To keep one, over a restart say, keep its [`numbers`](Running::numbers) and the region buffer of its last step together:
+/// [`from_numbers`](Running::from_numbers) takes it up again. Where it waits for a write, the bytes to write are in that buffer, and only
+/// there; taken up with another one it writes that one's bytes, and answers Written.
+///
+/// It cannot be copied or cloned, since a step of a copy leaves the other where it was, to ask for a service that is already done:
+///
+/// ```compile_fail,E0382
+/// # use stilefray::stepped::{Reply, Running};
+/// # let mut region = [0u8; 64];
+/// let mut running = Running::append_key(64, 4, 1, 3)?;
+/// let mut copy = running;
+/// let _ = copy.step(Reply::Begin, &mut region, b"abc", &mut []);
+/// let _ = running.step(Reply::Begin, &mut region, b"abc", &mut []); // moved away
+/// # Ok::<(), stilefray::Refusal>(())
+/// ```
+#[derive(Debug, PartialEq, Eq)]
+#[must_use = "nothing is done until it is stepped"]
 pub struct Running(Operation);
 
 impl Running {
@@ -133,41 +148,44 @@ impl Running {
 
     /// One step: takes the host's reply to the last request, and answers or asks for one service.
     ///
-    /// BadCall, which alters neither the operation nor a buffer: `region` has not `s` bytes; append's value or get's buffer has not the
-    /// length named at the start; [`Reply::Begin`] at any but the first step or another reply at the first; a step after the end; or
-    /// an operation of another layout, or that breaks the rule which every one handed out by a start or a step keeps. It comes before
-    /// FlashFailed.
+    /// A mistake is BadCall, which alters neither the operation nor a buffer and comes before FlashFailed: a part that is lent has the
+    /// wrong length, the reply is out of turn, the operation has ended, or its numbers are none that a start or a step hands out. R6.11
+    /// of docs/RULES.md is the whole list.
     ///
     /// A step alters `region` only where it asks for a write: the bytes to write then lie in it at their own place, and the rest stays
-    /// as last read. It alters `buffer` only where a get answers Complete, BufferTooSmall or InvalidCheckSum: by the value's first
-    /// bytes, as far as they fit.
+    /// as last read (R8.6). It alters `buffer` only where a get answers Complete, BufferTooSmall or InvalidCheckSum: by the value's
+    /// first bytes, as far as they fit (R8.7).
     #[inline]
     pub fn step(&mut self, reply: Reply, region: &mut [u8], value: &[u8], buffer: &mut [u8]) -> Request {
         let stepped = ffi::step(self.0, reply.number(), region, value, buffer);
         self.0 = stepped.op;
-        request_of(stepped.request)
+        stepped.request.into()
     }
 
     /// Whether the operation is fresh, so that the next step is given [`Reply::Begin`].
     #[inline]
+    #[must_use]
     pub fn is_fresh(&self) -> bool {
         self.0.fresh == 1
     }
 
     /// Whether the operation has ended: its answer was given, and any further step is BadCall.
     #[inline]
+    #[must_use]
     pub fn has_ended(&self) -> bool {
         self.0.next == Operation::NEXT_ENDED
     }
 
-    /// The operation's numbers, to look at or to keep.
+    /// The operation's numbers, to look at or to keep; to take it up again the region buffer of its last step has to be kept too.
+    #[must_use]
     pub fn numbers(&self) -> Operation {
         self.0
     }
 
     /// An operation of any numbers, such as [`numbers`](Running::numbers) gave. Each step tests them first, so numbers that something
     /// overwrote are answered by BadCall, or lead to requests within the chip that they name; and numbers of another
-    /// [layout](Operation::LAYOUT), kept over an update of the library, are answered by BadCall.
+    /// [layout](Operation::LAYOUT), kept over an update of the library, are answered by BadCall. Lend it the region buffer that was
+    /// kept with them. Two made of the same numbers are two operations: step only one of them.
     pub fn from_numbers(numbers: Operation) -> Running {
         Running(numbers)
     }
@@ -180,14 +198,17 @@ impl Running {
     }
 }
 
-/// A request by its numbers. The library gives no kind but 1 to 4 (that is proved of it); any other is taken for BadCall.
-#[inline]
-fn request_of(numbers: RequestNumbers) -> Request {
-    match numbers.kind {
-        1 => Request::Read { region: numbers.region },
-        2 => Request::Write { from: numbers.from, to: numbers.to, place: numbers.place },
-        3 => Request::Erase { region: numbers.region },
-        4 => Request::Answer(answer_of(numbers.answer)),
-        _ => Request::Answer(Err(Refusal::BadCall)),
+/// A request by its numbers. The library gives no kind but 1 to 4, that is proved of it; any other is an answer, [`Refusal::Unknown`]
+/// with the number of the kind.
+impl From<RequestNumbers> for Request {
+    #[inline]
+    fn from(numbers: RequestNumbers) -> Request {
+        match numbers.kind {
+            1 => Request::Read { region: numbers.region },
+            2 => Request::Write { from: numbers.from, to: numbers.to, place: numbers.place },
+            3 => Request::Erase { region: numbers.region },
+            4 => Request::Answer(numbers.answer.answer()),
+            kind => Request::Answer(Err(Refusal::Unknown(kind))),
+        }
     }
 }

@@ -1,4 +1,4 @@
-//! The afternoons of document 01, numbers 2 to 12, through the one-call form. S 64, N 4, blank at first, but for 11. (Number 1, the
+//! The worked examples R15.2 to R15.12 of docs/RULES.md through the one-call form. S 64, N 4, blank at first, but for R15.11. (R15.1, the
 //! probe order, is seen by the services of the tests in runs.rs.)
 mod common;
 use common::{blank, N, S};

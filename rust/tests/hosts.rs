@@ -4,7 +4,7 @@ use common::{blank, Call, Chip, Numbers, N, S};
 use std::collections::BTreeMap;
 use stilefray::image;
 use stilefray::stepped::{Reply, Request, Running};
-use stilefray::{Flash, Refusal, Success};
+use stilefray::{Refusal, Success};
 
 fn any_call(numbers: &mut Numbers) -> Call {
     let key = 1 + numbers.below(6) as u64;
@@ -98,14 +98,9 @@ fn serve(running: &mut Running, chip: &mut Chip, call: &Call, limit: usize, numb
             region[..S / 2].fill(numbers.next() as u8);
             assert_eq!(running.step(Reply::NotReady, &mut region, &value, &mut buffer), request);
         }
-        let done = match &request {
-            Request::Read { region: r } => chip.read_region(*r, &mut region),
-            Request::Write { from, to, place } => chip.write(*place, &region[*from..*to]),
-            Request::Erase { region: r } => chip.erase_region(*r),
-            Request::Answer(_) => unreachable!(),
-        };
-        assert_eq!(done, Ok(()));
-        request = running.step(Reply::Done, &mut region, &value, &mut buffer);
+        let reply = chip.reply(request, &mut region);
+        assert_eq!(reply, Reply::Done);
+        request = running.step(reply, &mut region, &value, &mut buffer);
     }
 }
 
@@ -132,7 +127,7 @@ fn what_is_bound_is_found_after_operations_that_were_broken_off() {
                 broken += 1;
                 let (value, mut buffer) = (call.value().to_vec(), call.buffer());
                 let failed = running.step(Reply::Failed, &mut [0; S], &value, &mut buffer);
-                assert_eq!(failed, Request::Answer(Err(Refusal::FlashFailed)));
+                assert_eq!(failed, Request::Answer(Err(Refusal::FlashFailed(()))));
             }
             let written = flash.image == whole.image && whole.answer == Ok(Success::Written);
             match &call {

@@ -19,13 +19,18 @@ struct Host {
 }
 
 impl Host {
+    /// Another operation of the same numbers, for mistakes to be tried on.
+    fn twin(&self) -> Running {
+        Running::from_numbers(self.running.numbers())
+    }
+
     /// A step with parts of these lengths, on copies; whatever it is, the copies must be as they were.
     fn mistake(&self, reply: Reply, region: usize, value: usize, buffer: usize) {
-        let mut running = self.running;
+        let mut running = self.twin();
         let parts = |bytes: &[u8], length: usize| bytes.iter().copied().chain(0..).take(length).collect::<Vec<u8>>();
         let (mut lent, lent_value) = (parts(&self.region, region), parts(self.call.value(), value));
         let mut lent_buffer = parts(&self.buffer, buffer);
-        let before = (self.running, lent.clone(), lent_buffer.clone());
+        let before = (self.twin(), lent.clone(), lent_buffer.clone());
         let request = running.step(reply, &mut lent, &lent_value, &mut lent_buffer);
         assert_eq!(request, BAD_CALL, "{:?} {reply:?} {region} {value} {buffer} {:?}", self.call, self.running);
         assert_eq!((running, lent, lent_buffer), before);
@@ -72,25 +77,25 @@ impl Host {
 
     /// Not ready repeats the request and alters nothing; lending what is not looked at makes no difference.
     fn waits(&mut self, request: Request) {
-        let before = (self.running, self.region.clone(), self.buffer.clone());
+        let before = (self.twin(), self.region.clone(), self.buffer.clone());
         for _ in 0..2 {
             assert_eq!(self.step(Reply::NotReady), request);
         }
-        let (mut other, mut spare) = (self.running, [9; 5]);
+        let (mut other, mut spare) = (self.twin(), [9; 5]);
         let repeated = match self.call {
             Call::Get(..) => other.step(Reply::NotReady, &mut self.region, &[1, 2], &mut self.buffer),
             Call::Append(..) => other.step(Reply::NotReady, &mut self.region, self.call.value(), &mut spare),
             _ => other.step(Reply::NotReady, &mut self.region, &[1, 2], &mut spare),
         };
-        assert_eq!((repeated, other, spare), (request, self.running, [9; 5]));
-        assert_eq!((self.running, &self.region, &self.buffer), (before.0, &before.1, &before.2));
+        assert_eq!((repeated, &other, spare), (request, &self.running, [9; 5]));
+        assert_eq!((&self.running, &self.region, &self.buffer), (&before.0, &before.1, &before.2));
     }
 
     /// A failed service ends the operation, and alters no buffer.
     fn fails(&self) {
-        let (mut running, mut region, mut buffer) = (self.running, self.region.clone(), self.buffer.clone());
+        let (mut running, mut region, mut buffer) = (self.twin(), self.region.clone(), self.buffer.clone());
         let request = running.step(Reply::Failed, &mut region, self.call.value(), &mut buffer);
-        assert_eq!(request, Request::Answer(Err(Refusal::FlashFailed)));
+        assert_eq!(request, Request::Answer(Err(Refusal::FlashFailed(()))));
         assert!(running.has_ended());
         assert_eq!((&region, &buffer), (&self.region, &self.buffer));
     }
@@ -153,9 +158,9 @@ fn mistakes_at_every_point_of_every_operation_change_nothing() {
 fn the_value_lent_at_the_step_that_asks_for_the_write_is_the_one_written() {
     let mut running = Running::append_key(S, N, 1, 2).unwrap();
     let mut region = [0; S];
-    running.step(Reply::Begin, &mut region, &[1, 1], &mut []);
-    let mut request = Request::Answer(Err(Refusal::BadCall));
+    let mut request = running.step(Reply::Begin, &mut region, &[1, 1], &mut []);
     for value in [[2, 2], [3, 3], [4, 4], [5, 6]] {
+        assert!(matches!(request, Request::Read { .. }));
         region.fill(255); // each read finds a blank region
         request = running.step(Reply::Done, &mut region, &value, &mut []);
     }

@@ -3,8 +3,8 @@ mod common;
 use common::{blank, Call, Chip, N, NONE, S};
 use stilefray::ffi::Operation;
 use stilefray::image::{append_key, invalidate_key};
-use stilefray::stepped::{Reply, Running};
-use stilefray::{Answer, Refusal, Served, Success};
+use stilefray::stepped::{Reply, Request, Running};
+use stilefray::{Answer, Refusal, Success};
 
 /// Its eight bytes all differ; its home is region 1, and its probe order 1, 2, 0, 3.
 const KEY: u64 = 0x8122_3344_5566_7705;
@@ -57,15 +57,14 @@ fn numbers(call: Call, image: Vec<u8>) -> (Vec<Operation>, Answer) {
     let (mut chip, mut region, mut buffer) = (Chip::new(S, image), [0; S], call.buffer());
     let mut running = call.start(S, N).unwrap();
     let mut seen = vec![running.numbers()];
-    running.step(Reply::Begin, &mut region, call.value(), &mut buffer);
+    let mut request = running.step(Reply::Begin, &mut region, call.value(), &mut buffer);
     loop {
         seen.push(running.numbers());
-        let served = running.serve(&mut chip, &mut region, call.value(), &mut buffer);
-        if let Served::Answer(answer) = served {
-            seen.push(running.numbers());
+        if let Request::Answer(answer) = request {
             return (seen, answer);
         }
-        assert_eq!(served, Served::More);
+        let reply = chip.reply(request, &mut region);
+        request = running.step(reply, &mut region, call.value(), &mut buffer);
     }
 }
 
@@ -235,7 +234,8 @@ fn a_failed_service_leaves_what_an_end_leaves() {
         let (got, _) = numbers(call.clone(), chip.clone());
         for op in &got[1..got.len() - 1] {
             let mut running = Running::from_numbers(*op);
-            running.step(Reply::Failed, &mut [0; S], call.value(), &mut call.buffer());
+            let failed = running.step(Reply::Failed, &mut [0; S], call.value(), &mut call.buffer());
+            assert_eq!(failed, Request::Answer(Err(Refusal::FlashFailed(()))));
             assert_eq!(running.numbers(), ended(plain), "{call:?} {op:?}");
         }
         assert_eq!(got.last(), Some(&ended(plain)), "{call:?}");
@@ -247,13 +247,14 @@ fn numbers_kept_and_taken_up_again_go_on() {
     let (mut chip, mut region) = (Chip::new(S, begun()), [0; S]);
     let mut running = Running::append_key(S, N, KEY, 2).unwrap();
     assert!(running.is_fresh() && !running.has_ended());
-    loop {
-        running = Running::from_numbers(running.numbers());
-        match running.serve(&mut chip, &mut region, &[7; 2], &mut []) {
-            Served::Answer(answer) => break assert_eq!(answer, Ok(Success::Written)),
-            served => assert_eq!((served, running.is_fresh()), (Served::More, false)),
-        }
+    let mut request = running.step(Reply::Begin, &mut region, &[7; 2], &mut []);
+    while !matches!(request, Request::Answer(_)) {
+        assert!(!running.is_fresh() && !running.has_ended());
+        let (kept, reply) = (running.numbers(), chip.reply(request, &mut region));
+        running = Running::from_numbers(kept);
+        request = running.step(reply, &mut region, &[7; 2], &mut []);
     }
+    assert_eq!(request, Request::Answer(Ok(Success::Written)));
     assert!(running.has_ended());
 }
 

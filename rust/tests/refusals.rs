@@ -1,8 +1,9 @@
 //! Every refusal by its number, what comes first where several hold, and what a refusal leaves.
 mod common;
 use common::{blank, Call, Chip, Left, N, S};
-use stilefray::stepped::Running;
-use stilefray::{checksum, image, Refusal, Served};
+use stilefray::ffi::{AnswerNumbers, RequestNumbers};
+use stilefray::stepped::{Reply, Request, Running};
+use stilefray::{checksum, image, Refusal, Success};
 
 /// A call that must be refused with this number, in the one-call and in the stepped form, and leave image and buffer as they were.
 fn refused(call: &Call, image: &[u8], s: usize, n: usize, number: u32) {
@@ -114,7 +115,7 @@ fn number_8_of_a_place_that_is_not_blank() {
     refused_in_both(&Call::Append(1, vec![]), &chip, 8);
     chip[64 + 14] = 255;
     chip[64 + 15] = 254; // just behind it
-    assert_eq!(Call::Append(1, vec![]).at_once(&chip, S, N).answer, Ok(stilefray::Success::Written));
+    assert_eq!(Call::Append(1, vec![]).at_once(&chip, S, N).answer, Ok(Success::Written));
 }
 
 #[test]
@@ -129,7 +130,7 @@ fn number_9_leaves_the_first_bytes_and_looks_at_no_checksum() {
             assert_eq!(Call::Get(1, buffer_len).by_steps(&chip, S, N).0, expected);
         }
     }
-    assert_eq!(Refusal::BufferTooSmall(3).number(), 9);
+    assert_eq!(<Refusal>::BufferTooSmall(3).number(), 9);
 }
 
 #[test]
@@ -144,9 +145,9 @@ fn number_10_leaves_the_copy() {
         assert_eq!(Call::Get(1, 4).at_once(&wrong, S, N), expected);
         assert_eq!(Call::Get(1, 4).by_steps(&wrong, S, N).0, expected);
         // A removal looks at no checksum.
-        assert_eq!(Call::Invalidate(1).at_once(&wrong, S, N).answer, Ok(stilefray::Success::Written));
+        assert_eq!(Call::Invalidate(1).at_once(&wrong, S, N).answer, Ok(Success::Written));
     }
-    assert_eq!(Refusal::InvalidCheckSum.number(), 10);
+    assert_eq!(<Refusal>::InvalidCheckSum.number(), 10);
 }
 
 #[test]
@@ -155,20 +156,70 @@ fn numbers_11_and_12_of_the_stepped_form() {
     chip.fails_at = Some(2);
     let mut running = Running::append_key(S, N, 1, 3).unwrap();
     let mut region = [0; S];
-    let bad = running.serve(&mut chip, &mut region[..63], &[7; 3], &mut []);
-    assert_eq!(bad, Served::Answer(Err(Refusal::BadCall)));
-    assert_eq!(Refusal::BadCall.number(), 11);
-    assert_eq!(running.serve(&mut chip, &mut region, &[7; 3], &mut []), Served::More);
-    assert_eq!(running.serve(&mut chip, &mut region, &[7; 3], &mut []), Served::More);
-    assert_eq!(running.serve(&mut chip, &mut region, &[7; 3], &mut []), Served::Answer(Err(Refusal::FlashFailed)));
-    assert_eq!(Refusal::FlashFailed.number(), 12);
+    let mut request = running.step(Reply::Begin, &mut region[..63], &[7; 3], &mut []);
+    assert_eq!(request, Request::Answer(Err(Refusal::BadCall)));
+    assert_eq!(<Refusal>::BadCall.number(), 11);
+    request = running.step(Reply::Begin, &mut region, &[7; 3], &mut []);
+    let mut replies = Vec::new();
+    while !matches!(request, Request::Answer(_)) {
+        replies.push(chip.reply(request, &mut region));
+        request = running.step(replies[replies.len() - 1], &mut region, &[7; 3], &mut []);
+    }
+    assert_eq!(replies, [Reply::Done, Reply::Done, Reply::Failed]);
+    assert_eq!(request, Request::Answer(Err(Refusal::FlashFailed(()))));
+    assert_eq!(<Refusal>::FlashFailed(()).number(), 12);
     assert!(running.has_ended());
     assert_eq!(chip.image, blank());
 }
 
+fn answer(kind: u32, refusal: u32) -> AnswerNumbers {
+    AnswerNumbers { kind, refusal, value: 5 }
+}
+
+#[test]
+fn a_number_that_is_not_known_is_said_to_be_so() {
+    for number in 0..=20 {
+        let refusal = answer(0, number).answer().unwrap_err();
+        assert_eq!(refusal.number(), number);
+        assert_eq!(refusal == Refusal::Unknown(number), !(1..=12).contains(&number));
+    }
+    assert_eq!(answer(0, u32::MAX).answer(), Err(Refusal::Unknown(u32::MAX)));
+    assert_eq!(answer(3, 0).answer(), Ok(Success::Freed(5)));
+    for kind in [4, 5, 11, 12, 255, u32::MAX] {
+        assert_eq!(answer(kind, 4).answer(), Err(Refusal::Unknown(kind)));
+    }
+}
+
+#[test]
+fn a_request_that_is_not_known_is_said_to_be_so() {
+    let numbers = RequestNumbers { kind: 1, region: 3, from: 4, to: 5, place: 6, answer: answer(0, 13) };
+    assert_eq!(Request::from(numbers), Request::Read { region: 3 });
+    assert_eq!(Request::from(RequestNumbers { kind: 4, ..numbers }), Request::Answer(Err(Refusal::Unknown(13))));
+    for kind in [0, 5, 11, u32::MAX] {
+        assert_eq!(Request::from(RequestNumbers { kind, ..numbers }), Request::Answer(Err(Refusal::Unknown(kind))));
+    }
+}
+
 #[test]
 fn a_refusal_is_an_error_with_words() {
-    let error: &dyn std::error::Error = &Refusal::BufferTooSmall(3);
+    let error: &dyn std::error::Error = &<Refusal>::BufferTooSmall(3);
     assert_eq!(error.to_string(), "the buffer is too small for a value of 3 bytes");
-    assert_eq!(Refusal::FlashFull.to_string(), "no region has room");
+    assert!(error.source().is_none());
+    let words: [(Refusal, &str); 3] = [
+        (Refusal::FlashFull, "no region has room"),
+        (Refusal::FlashFailed(()), "the flash failed"),
+        (Refusal::Unknown(13), "the library said 13, which this crate does not know"),
+    ];
+    words.iter().for_each(|(refusal, said)| assert_eq!(refusal.to_string(), *said));
+}
+
+/// Every refusal keeps its number when what is known of a failure is left out or replaced.
+#[test]
+fn a_refusal_without_what_is_known_of_a_failure() {
+    for number in 1..=13 {
+        let refusal = answer(0, number).answer().unwrap_err();
+        let named: Refusal<&str> = refusal.map_failure(|()| "worn out");
+        assert_eq!((named.number(), named.plain()), (number, refusal));
+        assert_eq!(named.failure(), (number == 12).then_some(&"worn out"));
+    }
 }

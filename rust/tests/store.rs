@@ -1,15 +1,14 @@
-//! The driver over a flash in memory: at once, slow, and failing.
+//! The blocking calls of a store over a flash in memory, at once and slow. Failures are in failures.rs.
 mod common;
 use common::Did::{Erase, Read, Write};
-use common::{blank, Chip, N, S};
-use stilefray::stepped::Running;
-use stilefray::{image, Refusal, Served, Store, Success};
+use common::{blank, Chip, Fault, N, S};
+use stilefray::{image, Flash, Refusal, Store, StoreRefusal, Success};
 
 /// A life of a store; what it answers, in order.
 fn life(store: &mut Store<'_, Chip>) -> Vec<Result<usize, u32>> {
     let mut buffer = [0; 8];
     let mut answers = Vec::new();
-    let mut note = |answer: Result<usize, Refusal>| answers.push(answer.map_err(Refusal::number));
+    let mut note = |answer: Result<usize, StoreRefusal<Chip>>| answers.push(answer.map_err(|refusal| refusal.number()));
     note(store.initialise(4).map(Success::value));
     note(store.initialise(4).map(Success::value));
     note(store.append_key(1, &[7; 49]).map(|()| 1));
@@ -64,67 +63,17 @@ fn the_store_asks_for_the_services_of_the_stepped_form() {
     assert_eq!(store.flash().did, [Read(1), Write(64, zeros.to_vec())]);
 }
 
-/// A call that a store makes.
-type Does = fn(&mut Store<'_, Chip>) -> Result<(), Refusal>;
-
-#[test]
-fn a_failed_service_ends_the_call_wherever_it_comes() {
-    let mut image = blank();
-    image::append_key(&mut image, S, N, 1, &[7]).unwrap();
-    image::append_key(&mut image, S, N, 2, &[7]).unwrap();
-    image::invalidate_key(&mut image, S, N, 1).unwrap();
-    let calls: [(Does, usize); 6] = [
-        (|store| store.get_key(2, &mut [0; 4]).map(drop), 1),
-        (|store| store.append_key(9, b"nine"), 5),
-        (|store| store.invalidate_key(2), 2),
-        (|store| store.zeroise_key(2), 2),
-        (|store| store.garbage_collect().map(drop), 5),
-        (|store| store.initialise(8).map(drop), 4 + 4 + 5),
-    ];
-    for (call, services) in calls {
-        for fails_at in 0..=services {
-            let mut chip = Chip::new(S, image.clone());
-            (chip.fails_at, chip.waits) = (Some(fails_at), 1);
-            let mut region = [0; S];
-            let mut store = Store::new(chip, &mut region, N);
-            let expected = if fails_at < services { Err(Refusal::FlashFailed) } else { Ok(()) };
-            assert_eq!(call(&mut store), expected);
-            assert_eq!(store.flash().did.len(), fails_at);
-            if store.flash().did.iter().all(|did| matches!(did, Read(_))) {
-                assert_eq!(store.flash().image, image);
-            }
-            // The store is none the worse for it.
-            store.flash_mut().fails_at = None;
-            assert!(store.get_key(63, &mut []).is_err_and(|refusal| refusal.number() == 4));
-        }
-    }
-}
-
-#[test]
-fn one_service_at_a_time_with_other_work_between() {
-    let mut chip = Chip::new(S, blank());
-    chip.waits = 1;
-    let mut region = [0; S];
-    let mut store = Store::new(chip, &mut region, N);
-    let mut running = Running::append_key(store.region_size(), store.regions(), 1, 3).unwrap();
-    let mut served = Vec::new();
-    while !matches!(served.last(), Some(Served::Answer(_))) {
-        served.push(store.serve(&mut running, b"abc", &mut []));
-    }
-    let (waits, more) = (Served::NotReady, Served::More);
-    let end = Served::Answer(Ok(Success::Written));
-    assert_eq!(served, [waits, more, waits, more, waits, more, waits, more, waits, end]);
-    assert_eq!(store.serve(&mut running, b"abc", &mut []), Served::Answer(Err(Refusal::BadCall)));
-    let mut buffer = [0; 3];
-    assert_eq!((store.get_key(1, &mut buffer), &buffer), (Ok(3), b"abc"));
-}
-
 #[test]
 fn a_flash_may_be_lent() {
     let mut chip = Chip::new(S, blank());
     let mut region = [0; S];
     assert_eq!(Store::new(&mut chip, &mut region, N).append_key(1, &[]), Ok(()));
     assert_eq!(chip.image[64], 1);
+    let unnamed: &mut dyn Flash<Error = Fault> = &mut chip;
+    assert_eq!(Store::new(unnamed, &mut region, N).get_key(1, &mut []), Ok(0));
+    chip.did.clear();
+    let given_back = Store::new(chip, &mut region, N).into_flash();
+    assert_eq!((given_back.image[64], given_back.did), (1, vec![]));
 }
 
 #[test]

@@ -1,10 +1,12 @@
 //! A flash in memory, and helpers that several tests use.
 #![allow(dead_code)]
+pub mod package;
 pub mod rule;
 
+use std::fmt;
 use stilefray::ffi::Operation;
 use stilefray::stepped::{Reply, Request, Running};
-use stilefray::{image, Answer, Flash, NotDone};
+use stilefray::{image, Answer, Flash, NotDone, Service, Store, StoreRefusal, Underway};
 
 /// The afternoons' chip.
 pub const S: usize = 64;
@@ -46,6 +48,29 @@ pub enum Did {
     Erase(usize),
 }
 
+impl Did {
+    /// The service as a store names it.
+    pub fn service(&self) -> Service {
+        match self {
+            Did::Read(region) => Service::Read { region: *region },
+            Did::Write(place, bytes) => Service::Write { place: *place, length: bytes.len() },
+            Did::Erase(region) => Service::Erase { region: *region },
+        }
+    }
+}
+
+/// The chip's own error: how many services were done before the one that failed.
+#[derive(Clone, Copy, Debug, PartialEq, Eq)]
+pub struct Fault(pub usize);
+
+impl fmt::Display for Fault {
+    fn fmt(&self, f: &mut fmt::Formatter<'_>) -> fmt::Result {
+        write!(f, "fault after {} services", self.0)
+    }
+}
+
+impl std::error::Error for Fault {}
+
 /// A flash in memory: it lists what was done, makes each service wait, and fails where it is told to.
 #[derive(Clone, Debug)]
 pub struct Chip {
@@ -67,7 +92,7 @@ impl Chip {
     }
 
     /// A service is asked for; one that was not ready must be asked for again unchanged.
-    fn asked(&mut self, service: Did) -> Result<(), NotDone> {
+    fn asked(&mut self, service: Did) -> Result<(), NotDone<Fault>> {
         let (pending, waited) = self.pending.take().unwrap_or((service.clone(), 0));
         assert_eq!(pending, service, "another service was asked for while one was not ready");
         if waited < self.waits {
@@ -76,21 +101,43 @@ impl Chip {
             return Err(NotDone::NotReady);
         }
         if self.fails_at == Some(self.did.len()) {
-            return Err(NotDone::Failed);
+            return Err(NotDone::Failed(Fault(self.did.len())));
         }
         self.did.push(service);
         Ok(())
     }
+
+    /// The service that was not ready will not be asked for again.
+    pub fn give_up(&mut self) {
+        self.pending = None;
+    }
+
+    /// Does what a step asks for, as a host's own loop would.
+    pub fn reply(&mut self, request: Request, region_buffer: &mut [u8]) -> Reply {
+        let done = match request {
+            Request::Read { region } => self.read_region(region, region_buffer),
+            Request::Write { from, to, place } => self.write(place, &region_buffer[from..to]),
+            Request::Erase { region } => self.erase_region(region),
+            Request::Answer(_) => panic!("an answer asks for nothing"),
+        };
+        match done {
+            Ok(()) => Reply::Done,
+            Err(NotDone::NotReady) => Reply::NotReady,
+            Err(NotDone::Failed(_)) => Reply::Failed,
+        }
+    }
 }
 
 impl Flash for Chip {
-    fn read_region(&mut self, region: usize, buffer: &mut [u8]) -> Result<(), NotDone> {
+    type Error = Fault;
+
+    fn read_region(&mut self, region: usize, buffer: &mut [u8]) -> Result<(), NotDone<Fault>> {
         self.asked(Did::Read(region))?;
         buffer.copy_from_slice(&self.image[region * self.s..(region + 1) * self.s]);
         Ok(())
     }
 
-    fn write(&mut self, place: usize, bytes: &[u8]) -> Result<(), NotDone> {
+    fn write(&mut self, place: usize, bytes: &[u8]) -> Result<(), NotDone<Fault>> {
         self.asked(Did::Write(place, bytes.to_vec()))?;
         assert!(!bytes.is_empty() && place / self.s == (place + bytes.len() - 1) / self.s, "a write within one region");
         for (old, new) in self.image[place..place + bytes.len()].iter_mut().zip(bytes) {
@@ -99,7 +146,7 @@ impl Flash for Chip {
         Ok(())
     }
 
-    fn erase_region(&mut self, region: usize) -> Result<(), NotDone> {
+    fn erase_region(&mut self, region: usize) -> Result<(), NotDone<Fault>> {
         self.asked(Did::Erase(region))?;
         self.image[region * self.s..(region + 1) * self.s].fill(255);
         Ok(())
@@ -134,6 +181,18 @@ impl Call {
             Call::Zeroise(key) => Running::zeroise_key(s, n, *key),
             Call::Collect => Running::garbage_collect(s, n),
             Call::Initialise(key) => Running::initialise(s, n, *key),
+        }
+    }
+
+    /// The call under way on a store.
+    pub fn underway<'o, F: Flash>(&'o self, store: &'o mut Store<'_, F>, buffer: &'o mut [u8]) -> Result<Underway<'o, F>, StoreRefusal<F>> {
+        match self {
+            Call::Get(key, _) => store.start_get_key(*key, buffer),
+            Call::Append(key, value) => store.start_append_key(*key, value),
+            Call::Invalidate(key) => store.start_invalidate_key(*key),
+            Call::Zeroise(key) => store.start_zeroise_key(*key),
+            Call::Collect => store.start_garbage_collect(),
+            Call::Initialise(key) => store.start_initialise(*key),
         }
     }
 
@@ -177,14 +236,11 @@ impl Call {
         };
         let mut request = running.step(Reply::Begin, &mut region, self.value(), &mut buffer);
         loop {
-            let done = match request {
-                Request::Read { region: r } => chip.read_region(r, &mut region),
-                Request::Write { from, to, place } => chip.write(place, &region[from..to]),
-                Request::Erase { region: r } => chip.erase_region(r),
-                Request::Answer(answer) => return (Left { answer, image: chip.image, buffer }, chip.did),
-            };
-            assert_eq!(done, Ok(()));
-            request = running.step(Reply::Done, &mut region, self.value(), &mut buffer);
+            if let Request::Answer(answer) = request {
+                return (Left { answer, image: chip.image, buffer }, chip.did);
+            }
+            let reply = chip.reply(request, &mut region);
+            request = running.step(reply, &mut region, self.value(), &mut buffer);
         }
     }
 }
