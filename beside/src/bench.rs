@@ -77,13 +77,14 @@ fn each(keys: &[u64], mut call: impl FnMut(u64)) -> (Duration, usize) {
     (start.elapsed(), keys.len())
 }
 
-/// Our host for gets: it reads as the crate's does, by copying the region.
-struct Copying<'a> {
-    image: &'a [u8],
+/// A flash in memory: it reads as the crate's does, by copying the region, and
+/// writes by AND.
+struct Copying {
+    image: Vec<u8>,
     s: usize,
 }
 
-impl Flash for Copying<'_> {
+impl Flash for Copying {
     type Error = ();
 
     fn read_region(&mut self, region: usize, buffer: &mut [u8]) -> Result<(), NotDone<()>> {
@@ -91,23 +92,33 @@ impl Flash for Copying<'_> {
         Ok(())
     }
 
-    fn write(&mut self, _: usize, _: &[u8]) -> Result<(), NotDone<()>> {
-        Err(NotDone::Failed(()))
+    fn write(&mut self, place: usize, bytes: &[u8]) -> Result<(), NotDone<()>> {
+        self.image[place..].iter_mut().zip(bytes).for_each(|(old, new)| *old &= new);
+        Ok(())
     }
 
-    fn erase_region(&mut self, _: usize) -> Result<(), NotDone<()>> {
-        Err(NotDone::Failed(()))
+    fn erase_region(&mut self, region: usize) -> Result<(), NotDone<()>> {
+        self.image[region * self.s..][..self.s].fill(255);
+        Ok(())
     }
 }
 
-/// Gets against the crate: the driver over a flash, then the one-call form.
-fn gets<const S: usize>(chip: &Chip, keys: &[u64], what: &str) {
+/// The two forms of ours that are timed.
+#[derive(Clone, Copy)]
+enum Form {
+    Store,
+    OneCall,
+}
+
+/// Gets against the crate: by the store over a flash, or in the one-call form,
+/// then also against the straight version.
+fn gets<const S: usize>(form: Form, chip: &Chip, keys: &[u64], what: &str) {
     let (s, n, length) = (chip.s, chip.n, chip.length);
     let mut copy = chip.image.clone();
     let mut read_buffer = [0; S];
     let crate_store = TicKV::<_, S>::new(Memory(RefCell::new(&mut copy)), &mut read_buffer, s * n);
     let mut region = vec![0; s];
-    let mut store = Store::new(Copying { image: &chip.image, s }, &mut region, n);
+    let mut store = Store::new(Copying { image: chip.image.clone(), s }, &mut region, n);
     let (mut mine, mut other, mut third) = (vec![0; length], vec![0; length], vec![0; length]);
     for key in keys {
         let ours = store.get_key(*key, &mut mine).is_ok();
@@ -116,36 +127,51 @@ fn gets<const S: usize>(chip: &Chip, keys: &[u64], what: &str) {
     }
     let mut theirs = || each(keys, |key| sink(crate_store.get_key(key, &mut other)));
     let name = format!("get, {what}, S {s} N {n}, {length} bytes");
-    let mut by_store = || each(keys, |key| sink(store.get_key(key, &mut mine)));
-    row(&format!("{name}: driver / crate"), &mut by_store, &mut theirs);
+    if let Form::Store = form {
+        let mut by_store = || each(keys, |key| sink(store.get_key(key, &mut mine)));
+        return row(&format!("{name}: `Store` / crate"), &mut by_store, &mut theirs);
+    }
     let mut by_image =
-        || each(keys, |key| sink(stilefray::image::get_key(&chip.image, s, n, key, &mut third)));
+        || each(keys, |key| sink(stilefray::image::get_key(&chip.image, s, n, key, &mut mine)));
     row(&format!("{name}: one call / crate"), &mut by_image, &mut theirs);
-    let mut fourth = vec![0; length];
-    let mut straight =
-        || each(keys, |key| sink(straight::get(&chip.image, s, n, key, &mut fourth)));
+    let mut straight = || each(keys, |key| sink(straight::get(&chip.image, s, n, key, &mut third)));
     row(&format!("{name}: one call / straight"), &mut by_image, &mut straight);
 }
 
-/// Appends on the chip, which is put back before each pass, outside the timing.
-fn appends(chip: &Chip) {
-    let (s, n) = (chip.s, chip.n);
-    // One or two more in each region keeps it about three quarters full.
-    let room = s - s * 3 / 4;
-    let count = (n * (room / 2 / (chip.length + 15)).clamp(1, 4)).min(chip.absent.len());
-    let keys = &chip.absent[..count];
-    let value = vec![7; chip.length];
+/// Keys to append to a chip three quarters full: one or two more in each
+/// region keep it so.
+fn newcomers(chip: &Chip) -> &[u64] {
+    let room = chip.s - chip.s * 3 / 4;
+    let count = chip.n * (room / 2 / (chip.length + 15)).clamp(1, 4);
+    &chip.absent[..count.min(chip.absent.len())]
+}
+
+/// Appends, on a chip which is put back before each pass, outside the timing:
+/// by the store, or in one call, against the straight version.
+fn appends(form: Form, chip: &Chip) {
+    let (s, n, keys, value) = (chip.s, chip.n, newcomers(chip), vec![7; chip.length]);
     let (mut a, mut b) = (chip.image.clone(), chip.image.clone());
-    let mut ours = || {
-        a.copy_from_slice(&chip.image);
-        each(keys, |key| sink(stilefray::image::append_key(&mut a, s, n, key, &value)))
-    };
+    let mut region = vec![0; s];
+    let mut store = Store::new(Copying { image: a.clone(), s }, &mut region, n);
     let mut straight = || {
         b.copy_from_slice(&chip.image);
         each(keys, |key| sink(straight::append(&mut b, s, n, key, &value)))
     };
-    let name = format!("append, S {s} N {n}, {} bytes: one call / straight", chip.length);
-    row(&name, &mut ours, &mut straight);
+    let name = format!("append, S {s} N {n}, {} bytes", chip.length);
+    if let Form::Store = form {
+        let mut ours = || {
+            store.flash_mut().image.copy_from_slice(&chip.image);
+            each(keys, |key| sink(store.append_key(key, &value)))
+        };
+        row(&format!("{name}: `Store` / straight"), &mut ours, &mut straight);
+        a.copy_from_slice(&store.flash().image);
+    } else {
+        let mut ours = || {
+            a.copy_from_slice(&chip.image);
+            each(keys, |key| sink(stilefray::image::append_key(&mut a, s, n, key, &value)))
+        };
+        row(&format!("{name}: one call / straight"), &mut ours, &mut straight);
+    }
     assert_eq!(a, b, "both wrote the same");
     assert_ne!(a, chip.image, "and they did write");
 }
@@ -171,25 +197,30 @@ fn checksums() {
 const NOTES: &str = "
 Chips are three quarters full, every record in its home region, none full or
 empty: so the crate finds each present key, and looks for an absent one in all
-N regions, as we do (elsewhere it would stop early). `driver` is our store over
-a flash that copies each region into its buffer, as the crate's flash does;
-`one call` works on the image itself, as `straight` does. Appends start from
-the same chip, put back outside the timing. A ratio is our time over theirs,
-round by round: below 1 we are faster.";
+N regions, as we do (elsewhere it would stop early). `Store` is the Rust
+crate's, over a flash that copies each region into its buffer, as the crate's
+flash does; `one call` works on the image itself, as `straight` does. Appends
+start from the same chip, put back outside the timing. A ratio is our time over
+theirs, round by round: below 1 we are faster.";
+
+fn all(form: Form, chips: &[Chip; 4]) {
+    gets::<4_096>(form, &chips[0], &chips[0].present, "present");
+    gets::<1_024>(form, &chips[1], &chips[1].present, "present");
+    gets::<256>(form, &chips[2], &chips[2].present, "present");
+    gets::<4_096>(form, &chips[3], &chips[3].present, "present");
+    gets::<4_096>(form, &chips[0], &chips[0].absent[..64], "absent, all regions read");
+    gets::<1_024>(form, &chips[1], &chips[1].absent, "absent, all regions read");
+    gets::<256>(form, &chips[2], &chips[2].absent, "absent, all regions read");
+    chips.iter().for_each(|chip| appends(form, chip));
+}
 
 pub fn run() {
     println!("| Row | ours, ns | theirs, ns | ratio, median of {ROUNDS} | spread |");
     println!("|---|---|---|---|---|");
     let chips =
         [chip(4_096, 64, 19), chip(1_024, 16, 19), chip(256, 4, 19), chip(4_096, 64, 1_000)];
-    gets::<4_096>(&chips[0], &chips[0].present, "present");
-    gets::<1_024>(&chips[1], &chips[1].present, "present");
-    gets::<256>(&chips[2], &chips[2].present, "present");
-    gets::<4_096>(&chips[3], &chips[3].present, "present");
-    gets::<4_096>(&chips[0], &chips[0].absent[..64], "absent, all regions read");
-    gets::<1_024>(&chips[1], &chips[1].absent, "absent, all regions read");
-    gets::<256>(&chips[2], &chips[2].absent, "absent, all regions read");
-    chips.iter().for_each(appends);
+    all(Form::Store, &chips);
+    all(Form::OneCall, &chips);
     checksums();
     println!("{NOTES}");
     crate::bench_steps::run();
