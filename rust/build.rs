@@ -2,6 +2,8 @@
 //! where `rt staticlib stilefray` writes it. Where it is missing the build stops here, and not at the linker.
 use std::env;
 use std::ffi::OsString;
+use std::fs::File;
+use std::io::Read;
 use std::path::{Component, Path, PathBuf};
 use std::process::ExitCode;
 
@@ -10,6 +12,10 @@ const ARCHIVE: &str = "libstilefray.a";
 fn main() -> ExitCode {
     println!("cargo:rerun-if-changed=build.rs");
     println!("cargo:rerun-if-env-changed=STILEFRAY_LIB_DIR");
+    println!("cargo:rerun-if-env-changed=STILEFRAY_NO_ARCHIVE");
+    if env::var_os("STILEFRAY_NO_ARCHIVE").is_some() {
+        return ExitCode::SUCCESS; // `cargo doc` and `cargo check` need none
+    }
     match archive_dir() {
         Ok(dir) => {
             println!("cargo:rerun-if-changed={dir}/{ARCHIVE}");
@@ -36,11 +42,17 @@ fn archive_dir() -> Result<String, String> {
     if named.is_some() && dir.is_file() {
         return Err(format!("STILEFRAY_LIB_DIR names a file, {}: name the folder that holds {ARCHIVE}", dir.display()));
     }
-    if !dir.join(ARCHIVE).is_file() {
+    if !is_archive(&dir.join(ARCHIVE)) {
         return Err(missing(&dir, named.is_some(), &repository));
     }
     let shown = dir.display().to_string();
     dir.into_os_string().into_string().map_err(|_| format!("cargo takes no path that is not UTF-8: {shown}"))
+}
+
+/// A file with an archive's head: one that was cut off at once is none, and the linker would say so less clearly.
+fn is_archive(path: &Path) -> bool {
+    let mut head = [0; 8];
+    File::open(path).and_then(|mut file| file.read_exact(&mut head)).is_ok() && &head == b"!<arch>\n"
 }
 
 /// What is missing and what to do. A package that was taken out of the repository cannot tell where that is.
@@ -61,21 +73,35 @@ fn default_dir(repository: &Path) -> PathBuf {
     repository.join("target").join("staticlib")
 }
 
-/// A path that is not whole is meant from the folder in which cargo was called. Cargo runs this program in the package's own folder, so
-/// that it has to be taken from the shell's PWD.
+/// A path that is not whole is meant from the folder in which cargo was called. Cargo runs this program in the package's own folder.
 fn from_where_cargo_was_called(dir: &OsString) -> Result<PathBuf, String> {
     let dir = Path::new(dir);
     if dir.is_absolute() {
         return Ok(dir.to_path_buf());
     }
     println!("cargo:rerun-if-env-changed=PWD");
-    match env::var_os("PWD").map(PathBuf::from).filter(|called_in| called_in.is_absolute()) {
+    match called_in() {
         Some(called_in) => Ok(called_in.join(dir)),
         None => Err(format!(
             "STILEFRAY_LIB_DIR is {}, and the folder in which cargo was called is not known (PWD): give it a whole path",
             dir.display()
         )),
     }
+}
+
+/// Cargo's own folder, where the system tells it; else what the shell says, which may be another where cargo was not called from one.
+fn called_in() -> Option<PathBuf> {
+    cargo_s_own().or_else(|| env::var_os("PWD").map(PathBuf::from)).filter(|dir| dir.is_absolute())
+}
+
+#[cfg(target_os = "linux")]
+fn cargo_s_own() -> Option<PathBuf> {
+    std::fs::read_link(format!("/proc/{}/cwd", std::os::unix::process::parent_id())).ok()
+}
+
+#[cfg(not(target_os = "linux"))]
+fn cargo_s_own() -> Option<PathBuf> {
+    None
 }
 
 fn manifest_dir() -> PathBuf {

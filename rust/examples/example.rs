@@ -1,5 +1,5 @@
 use std::convert::Infallible;
-use stilefray::{Flash, NotDone, Store, StoreRefusal};
+use stilefray::{Flash, NotDone, Store, StoreRefusal, Success};
 
 /// Stands for the chip: 4 regions of 1,024 bytes.
 struct Chip([[u8; 1024]; 4]);
@@ -28,7 +28,10 @@ impl Flash for Chip {
 fn main() -> Result<(), StoreRefusal<Chip>> {
     let mut region_buffer = [0u8; 1024];
     let mut store = Store::new(Chip([[0; 1024]; 4]), &mut region_buffer, 4);
-    store.initialise(1000)?; // the main key: any other than the chip's own erases the chip
+    // The main key: with any other than the chip's own, or another size or number of regions, the chip is erased.
+    if store.initialise(1000)? == Success::Written {
+        eprintln!("a new chip");
+    }
     store.append_key(101, b"R1.1 G1 B0.9")?;
     let mut buffer = [0u8; 64];
     let length = store.get_key(101, &mut buffer)?;

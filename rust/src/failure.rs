@@ -1,4 +1,5 @@
 //! What a store knows of a flash service that failed.
+use crate::stepped::Request;
 use core::error::Error;
 use core::fmt;
 
@@ -24,13 +25,26 @@ pub enum Service {
     },
 }
 
+impl Service {
+    /// The service that a request asks for; none where it is an answer.
+    #[inline]
+    pub(crate) fn of(request: Request) -> Option<Service> {
+        match request {
+            Request::Read { region } => Some(Service::Read { region }),
+            Request::Write { from, to, place } => Some(Service::Write { place, length: to.saturating_sub(from) }),
+            Request::Erase { region } => Some(Service::Erase { region }),
+            Request::Answer(_) => None,
+        }
+    }
+}
+
 /// Why a store takes a service for failed.
 #[derive(Clone, Copy, Debug, PartialEq, Eq)]
 pub enum Reason<E> {
     /// The flash said so, with its own error.
     Failed(E),
     /// The flash said NotReady more often in a row than the store's [limit](crate::Store::set_limit) allows. It may still be busy with
-    /// the service.
+    /// the service, which the store's next operation asks for again ([`Store::begun`](crate::Store::begun)).
     NeverReady {
         /// The limit.
         limit: u32,

@@ -45,10 +45,9 @@ impl<E: Error + 'static> Error for NotDone<E> {
 /// the service at the first call, says NotReady while it is under way, and says `Ok` or `Failed` once it is over. (tickv does not
 /// repeat a write or an erase that was not ready; here it is repeated, and the answer waits for it.)
 ///
-/// Two things end the asking before the service is over: the store's [limit](crate::Store::set_limit), and an operation that is given
-/// up ([`Underway`](crate::Underway) dropped). The next call may then be another one, while the flash is still busy: it has to see to
-/// it that the old service is over before it begins the new one, by saying NotReady or by waiting, and must not take the end of the
-/// old one for that of the new.
+/// That holds also where the operation is given up meanwhile, by the store's [limit](crate::Store::set_limit) or because its
+/// [`Underway`](crate::Underway) is dropped: the store's next operation makes that same call, until the service is over, before it asks
+/// for anything of its own ([`Store::begun`](crate::Store::begun)). So a flash of one store never has two services at once.
 ///
 /// What is lent to a call is lent for that call alone. While a write is not ready it is called again with the same bytes, but a flash
 /// that goes on reading them between two calls, or writing to a buffer, as by DMA, needs a copy of its own.

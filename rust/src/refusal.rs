@@ -7,9 +7,7 @@ use core::fmt;
 /// Why the store says no. R6 of docs/RULES.md says of each number exactly when it comes and what it leaves; [`number`](Refusal::number)
 /// gives the number.
 ///
-/// Refusals 1, 2 and 3 come first and in this order, before anything is read; in the stepped form the start gives them and runs
-/// nothing. A refusal alters no byte of the image or of a buffer, but for what get copies under 9 and 10, what collect and initialise
-/// did before, and services already done before 11 or 12.
+/// R7.2 says in which order they come. Most leave everything as it was (R7.3).
 ///
 /// `F` is what is known of a failed service. In the one-call form, where no service can fail, and in the [stepped](crate::stepped) form,
 /// where it was the host itself that said so, that is nothing, and a plain `Refusal` is meant. A [`Store`](crate::Store) answers
@@ -24,7 +22,8 @@ use core::fmt;
 /// fn exhaustive(refusal: Refusal) -> u32 {
 ///     match refusal {
 ///         BadGeometry | BadKey | ObjectTooLarge | KeyNotFound | KeyAlreadyExists | FlashFull => 1,
-///         UnsupportedVersion | CorruptData | BufferTooSmall(_) | InvalidCheckSum | BadCall | FlashFailed(()) | Unknown(_) => 2,
+///         UnsupportedVersion | CorruptData | BufferTooSmall(_) | InvalidCheckSum | BadCall | FlashFailed(()) => 2,
+///         Unknown(_) | UnknownKind(_) => 3,
 ///     }
 /// }
 /// ```
@@ -58,14 +57,16 @@ pub enum Refusal<F = ()> {
     BadCall,
     /// 12: a service failed. The operation has ended; what was done to the flash before stays done.
     FlashFailed(F),
-    /// A number that this crate does not know: an archive that is newer than the crate. It is the number of a refusal; or, where the
-    /// library answered or asked in a way that this crate does not know, the number of that kind of answer or of request. Of such an
-    /// operation nothing is known but what the archive's own documents say.
+    /// A refusal whose number this crate does not know: the archive is newer than the crate. What it leaves is in the archive's own
+    /// rules.
     Unknown(u32),
+    /// An answer or a request of a kind that this crate does not know, by the kind's number, which is no refusal's: the archive is newer
+    /// than the crate.
+    UnknownKind(u32),
 }
 
 impl<F> Refusal<F> {
-    /// The refusal's number, 1 to 12, or the one that is not known.
+    /// The refusal's number, 1 to 12, or the one that is not known; 0 for an [unknown kind](Refusal::UnknownKind), which is none.
     ///
     /// ```
     /// use stilefray::Refusal;
@@ -88,6 +89,7 @@ impl<F> Refusal<F> {
             Refusal::BadCall => 11,
             Refusal::FlashFailed(_) => 12,
             Refusal::Unknown(number) => *number,
+            Refusal::UnknownKind(_) => 0,
         }
     }
 
@@ -128,6 +130,7 @@ impl<F> Refusal<F> {
             Refusal::BadCall => Refusal::BadCall,
             Refusal::FlashFailed(failure) => other(failure),
             Refusal::Unknown(number) => Refusal::Unknown(number),
+            Refusal::UnknownKind(kind) => Refusal::UnknownKind(kind),
         }
     }
 
@@ -146,7 +149,8 @@ impl<F> Refusal<F> {
             Refusal::InvalidCheckSum => "the checksum is wrong",
             Refusal::BadCall => "the step's operation, reply or buffers are not those of a running operation",
             Refusal::FlashFailed(failure) => return failed(failure, f),
-            Refusal::Unknown(number) => return write!(f, "the library said {number}, which this crate does not know"),
+            Refusal::Unknown(number) => return write!(f, "refusal {number}, which this crate does not know"),
+            Refusal::UnknownKind(kind) => return write!(f, "an answer or a request of kind {kind}, which this crate does not know"),
         };
         f.write_str(words)
     }
@@ -200,8 +204,9 @@ impl<E: Error + 'static> Error for Refusal<Failure<E>> {
     }
 }
 
-/// What an operation answers when it is not refused.
+/// What an operation answers when it is not refused (R7.1 of docs/RULES.md).
 #[derive(Clone, Copy, Debug, PartialEq, Eq)]
+#[must_use = "`Written` from an initialise says that the chip was erased"]
 pub enum Success {
     /// Nothing on the flash was changed. Get: the value's length. Initialise: 0, the main key was there.
     Complete(usize),
@@ -228,7 +233,7 @@ pub type Answer<F = ()> = Result<Success, Refusal<F>>;
 
 impl AnswerNumbers {
     /// The answer that the numbers stand for. The library gives no kind but 0 to 3, that is proved of it; any other is
-    /// [`Refusal::Unknown`] with the number of the kind.
+    /// [`Refusal::UnknownKind`].
     #[inline]
     pub fn answer(self) -> Answer {
         match self.kind {
@@ -236,7 +241,7 @@ impl AnswerNumbers {
             1 => Ok(Success::Complete(self.value)),
             2 => Ok(Success::Written),
             3 => Ok(Success::Freed(self.value)),
-            kind => Err(Refusal::Unknown(kind)),
+            kind => Err(Refusal::UnknownKind(kind)),
         }
     }
 }

@@ -198,7 +198,7 @@ impl Running {
     }
 }
 
-/// A request by its numbers. The library gives no kind but 1 to 4, that is proved of it; any other is an answer, [`Refusal::Unknown`]
+/// A request by its numbers. The library gives no kind but 1 to 4, that is proved of it; any other is an answer, [`Refusal::UnknownKind`]
 /// with the number of the kind.
 impl From<RequestNumbers> for Request {
     #[inline]
@@ -208,7 +208,7 @@ impl From<RequestNumbers> for Request {
             2 => Request::Write { from: numbers.from, to: numbers.to, place: numbers.place },
             3 => Request::Erase { region: numbers.region },
             4 => Request::Answer(numbers.answer.answer()),
-            kind => Request::Answer(Err(Refusal::Unknown(kind))),
+            kind => Request::Answer(Err(Refusal::UnknownKind(kind))),
         }
     }
 }

@@ -1,9 +1,9 @@
 //! A store over the host's flash: tickv's `TicKV`.
-use crate::failure::Failure;
+use crate::failure::{Failure, Service};
 use crate::flash::Flash;
 use crate::refusal::{Answer, Refusal, Success};
-use crate::stepped::Running;
-use crate::underway::Underway;
+use crate::stepped::{Request, Running};
+use crate::underway::{Host, Underway};
 
 /// Why a store over the flash `F` says no: a failed service is told with the flash's own error.
 pub type StoreRefusal<F> = Refusal<Failure<<F as Flash>::Error>>;
@@ -60,14 +60,19 @@ pub struct Store<'a, F: Flash> {
     region_buffer: &'a mut [u8],
     regions: usize,
     limit: u32,
+    /// What the flash has begun and not ended, where its operation was given up.
+    begun: Option<Request>,
 }
 
 impl<'a, F: Flash> Store<'a, F> {
     /// `region_buffer` has the length of one region, 64 to 4,096 bytes; the chip has `regions` of them, 1 to 64. With other numbers
     /// every call is refused as BadGeometry. What the buffer holds does not matter. The [limit](Store::set_limit) is `u32::MAX`.
+    ///
+    /// On a chip that is in use both must be what it was written with: [`initialise`](Store::initialise) with another size or number of
+    /// regions may not meet the main key, and then erases the chip.
     #[must_use]
     pub fn new(flash: F, region_buffer: &'a mut [u8], regions: usize) -> Self {
-        Store { flash, region_buffer, regions, limit: u32::MAX }
+        Store { flash, region_buffer, regions, limit: u32::MAX, begun: None }
     }
 
     /// The store with another [limit](Store::set_limit).
@@ -86,9 +91,8 @@ impl<'a, F: Flash> Store<'a, F> {
     /// that is never ready it runs for four thousand million of them. Choose one by how long a service may take and how often it is
     /// asked. A flash that has a clock may rather look at the time itself, and say `Failed` when it is up.
     ///
-    /// The flash may still be busy with the service that was given up. Before the next operation see to it, through
-    /// [`flash_mut`](Store::flash_mut), that it is over or broken off. What a write or an erase leaves that was broken off is not
-    /// promised (R13.8 of docs/RULES.md): look first what get answers for the key.
+    /// The flash may still be busy with the service that was given up: the next operation asks for it again, before anything of its own
+    /// ([`begun`](Store::begun)), and if it stays not ready that operation is FlashFailed too.
     ///
     /// ```
     /// use stilefray::{Failure, Flash, NotDone, Reason, Refusal, Service, Store};
@@ -212,19 +216,35 @@ impl<'a, F: Flash> Store<'a, F> {
         self.regions
     }
 
+    /// The service that the flash has begun and not ended: the last that said NotReady, where its operation was given up by the limit or
+    /// by [dropping](Underway) it. The next operation asks for it again, with the same bytes, before anything of its own, until it is
+    /// done; what was given up has then done that service too (R11.9 of docs/RULES.md). If it fails, that operation ends as FlashFailed,
+    /// and the one after it begins with a service of its own.
+    #[must_use]
+    pub fn begun(&self) -> Option<Service> {
+        self.begun.and_then(Service::of)
+    }
+
+    /// Forgets the service that the flash had [begun](Store::begun), for a flash that was reset meanwhile: it is not asked for again. What
+    /// a write or an erase leaves that was broken off is not promised (R13.8).
+    pub fn forget_begun(&mut self) {
+        self.begun = None;
+    }
+
     /// The flash.
     #[must_use]
     pub fn flash(&self) -> &F {
         &self.flash
     }
 
-    /// The flash, to alter. What is changed behind the store's back is taken as it is found.
+    /// The flash, to alter. What is changed behind the store's back is taken as it is found; one that is reset may have
+    /// [begun](Store::forget_begun) a service.
     #[must_use]
     pub fn flash_mut(&mut self) -> &mut F {
         &mut self.flash
     }
 
-    /// The flash, given back. The store kept nothing else.
+    /// The flash, given back. A service that it has [begun](Store::begun) and not ended is no longer known then.
     #[must_use]
     pub fn into_flash(self) -> F {
         self.flash
@@ -238,6 +258,7 @@ impl<'a, F: Flash> Store<'a, F> {
         buffer: &'o mut [u8],
     ) -> Result<Underway<'o, F>, StoreRefusal<F>> {
         let running = start.map_err(Refusal::without_failure)?;
-        Ok(Underway::begin(running, &mut self.flash, self.region_buffer, value, buffer, self.limit))
+        let (region_buffer, begun) = (&mut *self.region_buffer, &mut self.begun);
+        Ok(Underway::begin(running, Host { flash: &mut self.flash, region_buffer, begun, limit: self.limit }, value, buffer))
     }
 }

@@ -42,10 +42,9 @@ pub enum Served<E> {
 ///
 /// **Dropping it gives the operation up.** Of a get, an append or a removal the chip is then as it was, or as the whole operation leaves
 /// it; of a collect some of the dead regions are erased; of an initialise some or all regions may be, and the main key may be missing: do
-/// it again (R11.9 of docs/RULES.md; docs/HOST.md says what to do about an initialise on a chip that was not well-formed). That holds
-/// between two services. If the service at hand had said NotReady, the flash may still be busy with it, and the store's next operation
-/// asks it for another: see [`Flash`]. It is the flash's to end it, which is as if it had been served once more, or to break it off, and
-/// of what a write or an erase leaves then nothing is promised (R13.8).
+/// it again (R11.9 of docs/RULES.md; docs/HOST.md says what to do about an initialise on a chip that was not well-formed). A service that
+/// had said NotReady is not given up with it: the store's next operation asks for it again, before anything of its own, until it is over
+/// ([`Store::begun`](crate::Store::begun)). So no service's end is taken for another's.
 ///
 /// ```
 /// # use stilefray::{Flash, NotDone, Served, Store, StoreRefusal, Success};
@@ -85,47 +84,57 @@ pub struct Underway<'o, F: Flash> {
     running: Running,
     /// What is asked for, so that a service needs one step and not two. Once the answer is given, what is answered from then on.
     request: Request,
+    /// The store's: what the flash has begun and not ended.
+    begun: &'o mut Option<Request>,
+    /// Whether that is an earlier operation's.
+    settles: bool,
     limit: u32,
     /// How often in a row the service at hand has said NotReady.
     waited: u32,
 }
 
+/// What an operation borrows of its store.
+pub(crate) struct Host<'o, F: Flash> {
+    pub flash: &'o mut F,
+    pub region_buffer: &'o mut [u8],
+    pub begun: &'o mut Option<Request>,
+    pub limit: u32,
+}
+
 impl<'o, F: Flash> Underway<'o, F> {
-    /// Takes the first step of a fresh operation.
+    /// Takes the first step of a fresh operation. It alters no buffer, so that what an earlier write has still to write stays.
     #[inline]
-    pub(crate) fn begin(
-        mut running: Running,
-        flash: &'o mut F,
-        region_buffer: &'o mut [u8],
-        value: &'o [u8],
-        buffer: &'o mut [u8],
-        limit: u32,
-    ) -> Self {
+    pub(crate) fn begin(mut running: Running, host: Host<'o, F>, value: &'o [u8], buffer: &'o mut [u8]) -> Self {
+        let Host { flash, region_buffer, begun, limit } = host;
         let request = running.step(Reply::Begin, region_buffer, value, buffer);
-        Underway { flash, region_buffer, value, buffer, running, request, limit, waited: 0 }
+        let settles = begun.is_some();
+        Underway { flash, region_buffer, value, buffer, running, request, begun, settles, limit, waited: 0 }
     }
 
     /// Does one service of the operation. Once it has answered, every further call answers BadCall and asks the flash for nothing.
     #[inline]
     pub fn serve(&mut self) -> Served<F::Error> {
-        let done = match self.request {
+        let request = self.asks();
+        let done = match request {
             Request::Read { region } => self.flash.read_region(region, self.region_buffer),
             Request::Write { from, to, place } => match self.region_buffer.get(from..to) {
                 Some(bytes) => self.flash.write(place, bytes),
                 // A write's bytes lie in the region buffer, that is proved: this is no write that this crate knows.
-                None => return self.answers(Err(Refusal::Unknown(2))),
+                None => return self.answers(Err(Refusal::UnknownKind(2))),
             },
             Request::Erase { region } => self.flash.erase_region(region),
             Request::Answer(answer) => return self.answers(answer.map_err(Refusal::without_failure)),
         };
+        *self.begun = if let Err(NotDone::NotReady) = done { Some(request) } else { None };
         match done {
+            Ok(()) if self.settles => self.settled(),
             Ok(()) => self.goes_on(),
-            Err(NotDone::Failed(error)) => self.fails(Reason::Failed(error)),
+            Err(NotDone::Failed(error)) => self.fails(request, Reason::Failed(error)),
             Err(NotDone::NotReady) if self.waited < self.limit => {
                 self.waited += 1;
                 Served::NotReady
             }
-            Err(NotDone::NotReady) => self.fails(Reason::NeverReady { limit: self.limit }),
+            Err(NotDone::NotReady) => self.fails(request, Reason::NeverReady { limit: self.limit }),
         }
     }
 
@@ -149,15 +158,11 @@ impl<'o, F: Flash> Underway<'o, F> {
         }
     }
 
-    /// The service that the next call asks for; none once the operation has ended.
+    /// The service that the next call asks for; none once the operation has ended. At first it may be an earlier operation's, which the
+    /// flash has not ended.
     #[must_use]
     pub fn waits_for(&self) -> Option<Service> {
-        match self.request {
-            Request::Read { region } => Some(Service::Read { region }),
-            Request::Write { from, to, place } => Some(Service::Write { place, length: to.saturating_sub(from) }),
-            Request::Erase { region } => Some(Service::Erase { region }),
-            Request::Answer(_) => None,
-        }
+        Service::of(self.asks())
     }
 
     /// Whether the operation has ended: its answer was given.
@@ -179,10 +184,26 @@ impl<'o, F: Flash> Underway<'o, F> {
         self.flash
     }
 
+    /// What is asked of the flash now: what it has begun for an earlier operation, or the operation's own.
+    #[inline]
+    fn asks(&self) -> Request {
+        match *self.begun {
+            Some(begun) if self.settles && !self.has_ended() => begun,
+            _ => self.request,
+        }
+    }
+
     #[inline]
     fn step(&mut self, reply: Reply) -> Request {
         self.waited = 0;
         self.running.step(reply, self.region_buffer, self.value, self.buffer)
+    }
+
+    /// What was begun for an earlier operation is over: now comes the first service of this one.
+    #[cold]
+    fn settled(&mut self) -> Served<F::Error> {
+        (self.settles, self.waited) = (false, 0);
+        Served::More
     }
 
     /// The service at hand is done.
@@ -195,10 +216,10 @@ impl<'o, F: Flash> Underway<'o, F> {
         }
     }
 
-    /// The service at hand is taken for failed, which ends the operation (R8.5 of docs/RULES.md).
+    /// A service is taken for failed, which ends the operation (R8.5 of docs/RULES.md).
     #[cold]
-    fn fails(&mut self, reason: Reason<F::Error>) -> Served<F::Error> {
-        let failed = self.waits_for().map(|service| Failure { service, reason });
+    fn fails(&mut self, request: Request, reason: Reason<F::Error>) -> Served<F::Error> {
+        let failed = Service::of(request).map(|service| Failure { service, reason });
         let refusal = match (self.step(Reply::Failed), failed) {
             (Request::Answer(Err(Refusal::FlashFailed(()))), Some(failure)) => Refusal::FlashFailed(failure),
             (Request::Answer(Err(refusal)), _) => refusal.without_failure(),

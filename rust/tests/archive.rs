@@ -4,10 +4,10 @@ use common::package::Package;
 use std::fs;
 use std::path::Path;
 
-/// Cargo called with this STILEFRAY_LIB_DIR, in a folder of this name as far as the shell's PWD says: what it says if it fails.
-fn said(package: &Package, lib_dir: &str, pwd: Option<&Path>) -> Result<(), String> {
+/// Cargo called with this STILEFRAY_LIB_DIR in a folder, whatever the shell's PWD says: what it says if it fails.
+fn said(package: &Package, lib_dir: &str, folder: &Path) -> Result<(), String> {
     let mut cargo = package.cargo("check", "apart");
-    cargo.env("STILEFRAY_LIB_DIR", lib_dir).env_remove("PWD").envs(pwd.map(|pwd| ("PWD", pwd)));
+    cargo.env("STILEFRAY_LIB_DIR", lib_dir).env("PWD", "/nowhere").current_dir(folder);
     let output = cargo.output().expect("cargo runs");
     match output.status.success() {
         true => Ok(()),
@@ -24,18 +24,19 @@ fn the_archive_is_found_or_said_to_be_missing_by_its_whole_path() {
     fs::create_dir_all(&folder).unwrap();
     fs::write(&archive, "!<arch>\n").unwrap(); // empty, since nothing is linked
 
-    assert_eq!(said(&package, folder.to_str().unwrap(), None), Ok(()));
-    assert_eq!(said(&package, "a folder", Some(&dir)), Ok(()));
-    assert_eq!(said(&package, "./a folder/../a folder/", Some(&dir)), Ok(()));
+    assert_eq!(said(&package, folder.to_str().unwrap(), Path::new("/")), Ok(()));
+    assert_eq!(said(&package, "a folder", &dir), Ok(()));
+    assert_eq!(said(&package, "./a folder/../a folder/", &dir), Ok(()));
 
     let missing = |words: &str| format!("there is no archive {}/{words}", dir.display());
-    let elsewhere = said(&package, "elsewhere", Some(&dir)).unwrap_err();
+    let elsewhere = said(&package, "elsewhere", &dir).unwrap_err();
     assert!(elsewhere.contains(&missing("elsewhere/libstilefray.a, in the folder that STILEFRAY_LIB_DIR names\n")), "{elsewhere}");
     assert!(elsewhere.contains("make one: `rt staticlib stilefray`, called in "), "{elsewhere}");
-    let from_folder = said(&package, "../none/x", Some(&folder)).unwrap_err();
+    let from_folder = said(&package, "../none/x", &folder).unwrap_err();
     assert!(from_folder.contains(&missing("none/x/libstilefray.a")), "{from_folder}");
-    let nowhere = said(&package, "a folder", None).unwrap_err();
-    assert!(nowhere.contains("STILEFRAY_LIB_DIR is a folder, and the folder in which cargo was called is not known"), "{nowhere}");
-    let file = said(&package, archive.to_str().unwrap(), None).unwrap_err();
+    fs::write(folder.join("libstilefray.a"), "").unwrap(); // cut off at once
+    let cut = said(&package, "a folder", &dir).unwrap_err();
+    assert!(cut.contains(&missing("a folder/libstilefray.a")), "{cut}");
+    let file = said(&package, archive.to_str().unwrap(), Path::new("/")).unwrap_err();
     assert!(file.contains(&format!("STILEFRAY_LIB_DIR names a file, {}: name the folder", archive.display())), "{file}");
 }

@@ -35,7 +35,8 @@ fn answered(call: &Call, chip: Chip, limit: u32) -> (StoreAnswer<Chip>, Chip) {
     assert!(!failed || buffer == call.buffer());
     // The store is none the worse for it.
     (store.flash_mut().fails_at, store.flash_mut().waits) = (None, 0);
-    store.flash_mut().give_up();
+    store.flash_mut().reset();
+    store.forget_begun();
     let did = store.flash().did.clone();
     assert!(store.get_key(63, &mut []).is_err_and(|refusal| refusal.number() == 4));
     let mut chip = store.into_flash();

@@ -186,7 +186,7 @@ fn a_number_that_is_not_known_is_said_to_be_so() {
     assert_eq!(answer(0, u32::MAX).answer(), Err(Refusal::Unknown(u32::MAX)));
     assert_eq!(answer(3, 0).answer(), Ok(Success::Freed(5)));
     for kind in [4, 5, 11, 12, 255, u32::MAX] {
-        assert_eq!(answer(kind, 4).answer(), Err(Refusal::Unknown(kind)));
+        assert_eq!(answer(kind, 4).answer(), Err(Refusal::UnknownKind(kind)));
     }
 }
 
@@ -196,7 +196,7 @@ fn a_request_that_is_not_known_is_said_to_be_so() {
     assert_eq!(Request::from(numbers), Request::Read { region: 3 });
     assert_eq!(Request::from(RequestNumbers { kind: 4, ..numbers }), Request::Answer(Err(Refusal::Unknown(13))));
     for kind in [0, 5, 11, u32::MAX] {
-        assert_eq!(Request::from(RequestNumbers { kind, ..numbers }), Request::Answer(Err(Refusal::Unknown(kind))));
+        assert_eq!(Request::from(RequestNumbers { kind, ..numbers }), Request::Answer(Err(Refusal::UnknownKind(kind))));
     }
 }
 
@@ -208,7 +208,7 @@ fn a_refusal_is_an_error_with_words() {
     let words: [(Refusal, &str); 3] = [
         (Refusal::FlashFull, "no region has room"),
         (Refusal::FlashFailed(()), "the flash failed"),
-        (Refusal::Unknown(13), "the library said 13, which this crate does not know"),
+        (Refusal::Unknown(13), "refusal 13, which this crate does not know"),
     ];
     words.iter().for_each(|(refusal, said)| assert_eq!(refusal.to_string(), *said));
 }

@@ -118,7 +118,7 @@ fn what_is_refused_at_the_start_is_not_under_way() {
     assert_eq!(Store::new(Chip::new(S, blank()), &mut narrow, N).start_garbage_collect().err(), Some(Refusal::BadGeometry));
 }
 
-/// Given up after so many services, with the next one not begun, or asked for and not ready: the chip has those services done.
+/// Given up after so many services, with the next one not begun, or asked for and not ready and then reset: the chip has those done.
 fn given_up(call: &Call, count: usize, waits: usize) {
     let (whole, services) = call.by_steps(&used(), S, N);
     let (mut region, mut buffer) = ([0; S], call.buffer());
@@ -128,7 +128,8 @@ fn given_up(call: &Call, count: usize, waits: usize) {
     underway.flash_mut().waits = waits;
     (0..waits).for_each(|_| assert_eq!(underway.serve(), Served::NotReady));
     drop(underway);
-    store.flash_mut().give_up();
+    store.flash_mut().reset();
+    store.forget_begun();
     assert_eq!(store.flash().did, services[..count], "{call:?}");
     match call {
         Call::Collect | Call::Initialise(_) => {}
@@ -169,7 +170,8 @@ fn served(store: &mut Store<'_, Chip>, call: &Call, turns: usize) -> Option<Answ
         _ => None,
     });
     drop(underway);
-    store.flash_mut().give_up();
+    store.flash_mut().reset();
+    store.forget_begun();
     answer
 }
 

@@ -107,8 +107,8 @@ impl Chip {
         Ok(())
     }
 
-    /// The service that was not ready will not be asked for again.
-    pub fn give_up(&mut self) {
+    /// It is reset: the service that was not ready will not be asked for again.
+    pub fn reset(&mut self) {
         self.pending = None;
     }
 
