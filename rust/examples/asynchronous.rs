@@ -6,7 +6,7 @@ use std::sync::{Arc, Mutex, MutexGuard};
 use std::task::{Context, Poll, Wake, Waker};
 use std::thread::{self, Thread};
 use std::time::Duration;
-use stilefray::{Flash, NotDone, Service, Store, StoreRefusal};
+use stilefray::{Flash, NotDone, Service, Store, StoreRefusal, Success};
 
 /// The executor's thread, which a waker wakes.
 struct Sleeper(Thread);
@@ -112,7 +112,7 @@ impl Flash for Chip {
 }
 
 async fn correct(store: &mut Store<'_, Chip>) -> Result<(), StoreRefusal<Chip>> {
-    store.initialise_async(1000).await?;
+    assert_eq!(store.initialise_async(1000).await?, Success::Written);
     store.append_key_async(101, b"R1.1 G1 B0.9").await?;
     let mut buffer = [0u8; 64];
     let length = store.get_key_async(101, &mut buffer).await?;

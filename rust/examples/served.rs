@@ -1,4 +1,4 @@
-use stilefray::{Flash, NotDone, Served, Store, StoreRefusal};
+use stilefray::{Flash, NotDone, Served, Store, StoreRefusal, Success};
 
 /// Why this flash fails. A driver's own error stands here; it comes back in FlashFailed.
 #[derive(Debug)]
@@ -53,7 +53,7 @@ fn main() -> Result<(), StoreRefusal<Slow>> {
     let mut region_buffer = [0; 1024];
     let slow = Slow { chip: [[0; 1024]; 4], calls: 0 };
     let mut store = Store::new(slow, &mut region_buffer, 4).with_limit(1000);
-    store.initialise(1000)?; // a blocking call: it asks again while the flash is not ready
+    assert_eq!(store.initialise(1000)?, Success::Written); // a blocking call: it asks again while the flash is not ready
 
     // The same loop by hand, with other work in it. Until it has answered or is dropped, `append` has the store to itself.
     let mut append = store.start_append_key(101, b"R1.1 G1 B0.9")?;
@@ -65,7 +65,7 @@ fn main() -> Result<(), StoreRefusal<Slow>> {
             Served::NotReady => other_work += 1,
         }
     };
-    answer?;
+    assert_eq!(answer?, Success::Written);
 
     let mut buffer = [0; 64];
     let length = store.get_key(101, &mut buffer)?;

@@ -44,7 +44,8 @@ impl<F: Flash, T> fmt::Debug for Awaited<'_, F, T> {
     }
 }
 
-/// The same calls for an executor: one service of the flash for each poll. Nothing is asked of the flash before the first.
+/// The same calls for an executor: one service of the flash for each poll, in the order of R9 of docs/RULES.md. Nothing is asked of the
+/// flash before the first.
 ///
 /// ```
 /// use stilefray::{Flash, Store, StoreRefusal};

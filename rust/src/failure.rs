@@ -3,7 +3,7 @@ use crate::stepped::Request;
 use core::error::Error;
 use core::fmt;
 
-/// A service that a store asks of its flash: what one call of [`Flash`](crate::Flash) does.
+/// A service that a store asks of its flash (R8.4 of docs/RULES.md): what one call of [`Flash`](crate::Flash) does.
 #[derive(Clone, Copy, Debug, PartialEq, Eq)]
 pub enum Service {
     /// A read of a region.

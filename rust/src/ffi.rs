@@ -1,14 +1,14 @@
-//! The library's calls in its own numbers, as `c/stilefray.h` declares them. The rest of the crate gives them names; most users need
+//! The library's calls in its own numbers, as R12 of docs/RULES.md has them and `c/stilefray.h` declares them. The rest of the crate gives them names; most users need
 //! nothing from here.
 //!
 //! Every `unsafe` of the crate stands in this file. The functions here are safe because the library asks only that each pointer lead to
-//! as many bytes as its length says and that no two lent parts overlap where one is written, which Rust's slices always keep. It is
+//! as many bytes as its length says and that no two lent parts overlap where one is written (R12.8), which Rust's slices always keep. It is
 //! proved that it takes any numbers and answers, reads and writes nothing out of bounds, and keeps no pointer.
 
 #[cfg(not(all(target_arch = "x86_64", target_pointer_width = "64")))]
 compile_error!("libstilefray.a is built for x86-64, where a usize has 64 bits");
 
-/// An answer in numbers.
+/// An answer in numbers (R12.1 of docs/RULES.md).
 #[repr(C)]
 #[must_use]
 #[derive(Clone, Copy, Debug, PartialEq, Eq)]
@@ -21,8 +21,8 @@ pub struct AnswerNumbers {
     pub value: usize,
 }
 
-/// A running operation in numbers: what [`Running`](crate::stepped::Running) keeps. It has an edit to do, or none, and what is next after
-/// it. Numbers that it does not use are 0.
+/// A running operation in numbers: what [`Running`](crate::stepped::Running) keeps. R12.4 of docs/RULES.md says what each number means;
+/// those that an operation does not use are 0.
 #[repr(C)]
 #[derive(Clone, Copy, Debug, PartialEq, Eq)]
 pub struct Operation {
@@ -31,42 +31,41 @@ pub struct Operation {
     pub layout: u32,
     /// 1: nothing was asked for yet. Else 0.
     pub fresh: u32,
-    /// What is lent beside the region buffer: 0 nothing, 1 append's value, 2 get's buffer.
+    /// What is lent beside the region buffer.
     pub lent: u32,
-    /// What is to be written or erased: 0 none, 1 lay (a new record is written), 2 invalidate, 3 zeroise, 4 erase, 5 erases.
+    /// What is to be written or erased first.
     pub edit: u32,
-    /// What follows the edit: 0 nothing that runs, 1 seek (a region of the probe order is read), 2 sweep (collect reads a region), the
-    /// answers 3 complete, 4 written and 5 freed; 6 ended.
+    /// What follows it.
     pub next: u32,
-    /// Seek: 1 get, 2 append (also initialise's), 3 invalidate, 4 zeroise, 5 initialise.
+    /// What a lookup is for.
     pub aim: u32,
-    /// Seek: 0 no room gathered, 1 room that is not blank, 2 blank room.
+    /// What room a lookup has gathered.
     pub tag: u32,
-    /// Invalidate, zeroise: the record's version.
+    /// The version of the record that is to be made dead.
     pub version: u8,
-    /// Invalidate, zeroise: the record's flags.
+    /// Its flags.
     pub flags: u8,
     /// The bytes of a region.
     pub s: usize,
     /// How many regions there are.
     pub n: usize,
-    /// The key; collect, which has none, keeps 1 here.
+    /// The key.
     pub key: u64,
-    /// The length of what is lent, named at the start.
+    /// The length of what is lent.
     pub len: usize,
-    /// The edit's region. Erases: the next one to erase, or `at` or more where none is left.
+    /// The region of what is to be written or erased.
     pub region: usize,
-    /// Lay, invalidate, zeroise: the record's place in its region. Erases: the region after the last to erase.
+    /// Its place there, or the end of a run of regions.
     pub at: usize,
-    /// Invalidate, zeroise: the record's length.
+    /// The length of the record that is to be made dead.
     pub size: usize,
-    /// Invalidate, zeroise: the record's key.
+    /// Its key.
     pub found: u64,
-    /// Seek: which region of the probe order is being read, counted from 0. Sweep: the region. Complete: the length. Freed: the bytes.
+    /// How far what follows has come, or what it answers.
     pub a: usize,
-    /// Seek: the region with room. Sweep: how many regions were erased before this one.
+    /// The room's region, or collect's count.
     pub b: usize,
-    /// Seek: the place of the room in its region.
+    /// The room's place.
     pub c: usize,
 }
 
@@ -77,7 +76,7 @@ impl Operation {
     pub const NEXT_ENDED: u32 = 6;
 }
 
-/// What a start hands out.
+/// What a start hands out (R12.6).
 #[repr(C)]
 #[must_use]
 #[derive(Clone, Copy, Debug, PartialEq, Eq)]
@@ -88,7 +87,7 @@ pub struct StartNumbers {
     pub op: Operation,
 }
 
-/// What a step asks for. Numbers that a request does not use are 0.
+/// What a step asks for (R12.2). Numbers that a request does not use are 0.
 #[repr(C)]
 #[derive(Clone, Copy, Debug, PartialEq, Eq)]
 pub struct RequestNumbers {
@@ -106,7 +105,7 @@ pub struct RequestNumbers {
     pub answer: AnswerNumbers,
 }
 
-/// What a step hands back.
+/// What a step hands back (R12.7).
 #[repr(C)]
 #[must_use]
 #[derive(Clone, Copy, Debug, PartialEq, Eq)]

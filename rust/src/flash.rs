@@ -39,7 +39,7 @@ impl<E: Error + 'static> Error for NotDone<E> {
     }
 }
 
-/// The host's flash: tickv's `FlashController`.
+/// The host's flash: tickv's `FlashController`. Its three calls are the three services of R8.4 of docs/RULES.md.
 ///
 /// A call that answers [`NotDone::NotReady`] is made again with the same arguments until it answers otherwise. So a slow flash begins
 /// the service at the first call, says NotReady while it is under way, and says `Ok` or `Failed` once it is over. (tickv does not
@@ -92,14 +92,15 @@ pub trait Flash {
     /// [`Infallible`](core::convert::Infallible).
     type Error;
 
-    /// Reads the region's bytes into `buffer`, which has the length of one region. While it is not ready the buffer may hold anything.
+    /// Reads the region's bytes into `buffer`, which has the length of one region. While it is not ready the buffer may hold anything
+    /// (R8.9).
     fn read_region(&mut self, region: usize, buffer: &mut [u8]) -> Result<(), NotDone<Self::Error>>;
 
     /// Writes the bytes at an image place: region `place / s`, byte `place % s` in it. They lie within one region. Each byte of the
-    /// flash becomes the bitwise AND of old and new.
+    /// flash becomes the bitwise AND of old and new (R1.4).
     fn write(&mut self, place: usize, bytes: &[u8]) -> Result<(), NotDone<Self::Error>>;
 
-    /// Makes every byte of the region 255.
+    /// Makes every byte of the region 255 (R1.3).
     fn erase_region(&mut self, region: usize) -> Result<(), NotDone<Self::Error>>;
 
     /// Called by the futures after a service has said NotReady: see to it that the waker is woken once it is worth asking again.

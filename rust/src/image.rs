@@ -2,7 +2,8 @@
 //!
 //! `s` is 64 to 4,096, `n` is 1 to 64 and the image is exactly `n * s` bytes, or the call is refused as
 //! [`BadGeometry`](Refusal::BadGeometry). A blank chip is an image whose every byte is 255. The calls alter the image as a chip would
-//! be altered: a write only clears bits, and an erase makes every byte of one region 255. What each does in full is R5 of docs/RULES.md.
+//! be altered: a write only clears bits, and an erase makes every byte of one region 255. What each does in full is R5 of docs/RULES.md;
+//! the numbers that it is refused by are those of [`Refusal`], and R6 says exactly when each comes.
 //!
 //! ```
 //! use stilefray::{image, Refusal};
@@ -26,10 +27,8 @@ use crate::refusal::{Answer, Refusal, Success};
 
 /// The value of a key, copied to the front of `buffer`; its length is the answer, and the buffer's bytes after it stay (R5.2).
 ///
-/// Refused in this order: BadGeometry, BadKey; then the first region in the key's probe order that decides says UnsupportedVersion,
-/// CorruptData, BufferTooSmall or InvalidCheckSum, and where none decides it is KeyNotFound. BufferTooSmall gives the value's full
-/// length and leaves the buffer full of the value's first bytes; InvalidCheckSum leaves the value in the buffer. The other refusals
-/// leave the buffer as it was.
+/// Refused by 1, 2, 4 and 7 to 10. BufferTooSmall leaves the buffer full of the value's first bytes, InvalidCheckSum leaves the value in
+/// the buffer, and the others leave it as it was.
 pub fn get_key(image: &[u8], s: usize, n: usize, key: u64, buffer: &mut [u8]) -> Result<usize, Refusal> {
     ffi::get_key(image, s, n, key, buffer).answer().map(Success::value)
 }
@@ -37,9 +36,8 @@ pub fn get_key(image: &[u8], s: usize, n: usize, key: u64, buffer: &mut [u8]) ->
 /// Stores a value of at most 4,079 bytes under a key that has no live record: one write, in the first region of the key's probe order
 /// that has room (R5.3, R5.4).
 ///
-/// Refused in this order: BadGeometry, BadKey, ObjectTooLarge; then, as the regions are walked in probe order, UnsupportedVersion,
-/// CorruptData or KeyAlreadyExists by the first that decides; then FlashFull, or CorruptData where the place is not blank. A refusal
-/// leaves the image as it was.
+/// Refused by 1, 2, 3 and 5 to 8, which leave the image as it was. To replace a value see docs/WORKSHOP.md: on a full chip removing it
+/// first loses it.
 pub fn append_key(image: &mut [u8], s: usize, n: usize, key: u64, value: &[u8]) -> Result<(), Refusal> {
     ffi::append_key(image, s, n, key, value).answer().map(drop)
 }
@@ -47,8 +45,7 @@ pub fn append_key(image: &mut [u8], s: usize, n: usize, key: u64, value: &[u8]) 
 /// Makes the key's record dead: one write of one byte, its second, with the top bit cleared. The value stays readable on the chip
 /// until its region is collected; [`zeroise_key`] does not leave it there (R5.5).
 ///
-/// Refused in this order: BadGeometry, BadKey; then UnsupportedVersion or CorruptData by the first region that decides, or
-/// KeyNotFound. The checksum is not looked at. A refusal leaves the image as it was.
+/// The checksum is not looked at. Refused by 1, 2, 4, 7 and 8, which leave the image as it was.
 pub fn invalidate_key(image: &mut [u8], s: usize, n: usize, key: u64) -> Result<(), Refusal> {
     ffi::invalidate_key(image, s, n, key).answer().map(drop)
 }
@@ -62,18 +59,16 @@ pub fn zeroise_key(image: &mut [u8], s: usize, n: usize, key: u64) -> Result<(),
 
 /// Erases each region that has records, all of them dead. The answer is the bytes freed, `s` for each region erased (R5.7, R5.8).
 ///
-/// Refused: BadGeometry; then UnsupportedVersion or CorruptData where, in number order, a region has a bad place before any live
-/// record. The regions before it are already collected then, it and the later ones stand.
+/// Refused by 1, and by 7 and 8, before which regions may have been erased.
 pub fn garbage_collect(image: &mut [u8], s: usize, n: usize) -> Result<usize, Refusal> {
     ffi::garbage_collect(image, s, n).answer().map(Success::value)
 }
 
-/// Sees to it that the chip is one of this store's: `key` is the main key (R5.9). Call it with the same key each time: with another one,
-/// **every record on the chip is erased**.
+/// Sees to it that the chip is one of this store's: `key` is the main key (R5.9). Call it with the same key, `s` and `n` each time: with
+/// others, **every record on the chip may be erased**.
 ///
-/// `Complete(0)`: the main key was there with an empty value, nothing changed. `Written`: it was not, or its record or one before it
-/// was bad; every region was erased and the main key appended with an empty value. Refused: BadGeometry, BadKey, which leave the image
-/// as it was.
+/// `Complete(0)`: the main key was there with an empty value, nothing changed. `Written`: the chip was erased and begun anew. Refused by
+/// 1 and 2, which leave the image as it was.
 pub fn initialise(image: &mut [u8], s: usize, n: usize, key: u64) -> Answer {
     ffi::initialise(image, s, n, key).answer()
 }

@@ -10,7 +10,7 @@
 //! - `region`: a buffer of exactly `s` bytes. Nothing may change it while the operation runs, but for the reads that are asked for: an
 //!   operation that waits for a write has its bytes there, so two that run at once need a buffer each (R8.9).
 //! - `value`: append's value, of the length named at the start; where the operation is no append it is not looked at, lend `&[]`. The
-//!   value lent at the step that asks for the write is the one written.
+//!   value lent at the step that first asks for the write is the one written.
 //! - `buffer`: get's buffer, of the length named at the start; where the operation is no get it is not looked at, lend `&mut []`.
 //!
 //! ```
@@ -55,8 +55,9 @@ pub enum Reply {
 }
 
 impl Reply {
-    /// The reply's number: 0 begin, 1 done, 2 not ready, 3 failed.
+    /// The reply's number: 0 begin, 1 done, 2 not ready, 3 failed (R12.3).
     #[inline]
+    #[must_use]
     pub fn number(self) -> u32 {
         match self {
             Reply::Begin => 0,

@@ -110,7 +110,7 @@ fn what_is_bound_is_found_after_operations_that_were_broken_off() {
     let mut broken = 0;
     for _ in 0..300 {
         let mut chip = blank();
-        image::initialise(&mut chip, S, N, 1).unwrap();
+        assert_eq!(image::initialise(&mut chip, S, N, 1), Ok(Success::Written));
         let mut bound = BTreeMap::from([(1, vec![])]);
         for _ in 0..60 {
             let call = any_call(&mut numbers);
