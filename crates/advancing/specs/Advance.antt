@@ -37,7 +37,8 @@ abbrev pub seekNext : Op → Aim → ℕ → Seen → List ℕ → Plan
 seekNext op aim i seen region =
     turnedTo aim (op .n) i (closes (op .n) i (turnOf seen (op .key) (needOf aim (valueLent (op .lent))) (getD (probes (op .key) (op .n)) i 0) region))
 
--- R8.5: "done" where nothing was left to write or erase: a region was read, for a lookup or for collect.
+-- R8.5: "done" where nothing was left to write or erase: a region was read, for a lookup or for collect. The other two cases do not come: a reply
+-- there is BadCall (`replyFits`).
 abbrev pub advanceNext : Op → List ℕ → Then → Plan
 advanceNext op region (Then.Ends answer) = follows (Then.Ends answer)
 advanceNext op region (Then.Seek aim i seen) = seekNext op aim i seen region

@@ -66,7 +66,7 @@ collect image = collectOf image S N
 
 -- The values and the images, step by step.
 
--- R15.10: the blank image, with which each example begins
+-- R15.1: the chip is blank at first: the image with which the examples begin
 unfoldable pub blank : List ℕ
 blank = erased (N * S)
 

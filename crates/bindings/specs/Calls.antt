@@ -11,7 +11,8 @@ use Rattle.plans.specs.Answers.{startsAnew}
 use Rattle.store.specs.Read.{getOf}
 use Rattle.store.specs.Call.{Call, get, append, remove, collect, initialise, imageAfter}
 
--- R2.1: the arguments are what the types of the calls allow: a key of 64 bits, a value of bytes.
+-- R2.1, R1.1: what the types of the calls allow, asked where it is needed: the key of append and of initialise is a 64-bit number, and append's value
+-- is made of bytes. No other call writes an argument to the chip, and of those nothing is asked.
 pub data Typed : Call → Type 0 where
   typed-get : {key : ℕ} {buffer : List ℕ} → Typed (get key buffer)
   typed-append : {key : ℕ} {value : List ℕ} → key < 2 ^ 64 → Bytes value → Typed (append key value)

@@ -8,7 +8,7 @@ pub use layout::sum_bytes;
 ghost use mathlib.Core.Path.{_≡_};
 ghost use Rattle.format.specs.Layout.{live};
 
-// A record as its header says it: the place of its first byte in the region, its whole length, its version, its flags and its key.
+// R3.1: a record as its header says it: the place of its first byte in the region (R4.6), its whole length, its version, its flags and its key.
 pub struct Record {
     pub at: usize,
     pub len: usize,
@@ -44,13 +44,13 @@ impl Record {
     }
 }
 
-// Why a place is bad (R4.4, R4.5).
+// R4.4, R4.5: why a place is bad.
 pub enum Fault {
     UnsupportedVersion,
     CorruptData,
 }
 
-// How a record is made dead: its top flag is cleared, or all of it but the header is.
+// R3.7: how a record is made dead: its top flag is cleared, and to zeroise it every byte of value and checksum too.
 pub enum Removal {
     Invalidate,
     Zeroise,

@@ -12,13 +12,13 @@ use format::Fault;
 use format::Record;
 use refusals::Refusal;
 
-// What a lookup is for: append needs room for a record of so many bytes, nothing else needs any.
+// R5.4: what a lookup gathers on its way: append needs room for a record of so many bytes, nothing else needs any.
 pub enum Need {
     Nothing,
     Room(usize),
 }
 
-// The first region with room, the place there, and whether the record's place is blank.
+// R5.4: the first region with room, the place there, and whether the record's place is blank.
 pub enum Room {
     Nowhere,
     At {
@@ -28,7 +28,7 @@ pub enum Room {
     },
 }
 
-// What a lookup has gathered from the regions seen so far.
+// R5.4: what a lookup has gathered from the regions seen so far.
 pub struct Seen {
     pub room: Room,
 }
@@ -56,7 +56,7 @@ impl Seen {
     }
 }
 
-// How a lookup ends: a live record of the key and its region, a bad place in the image, or none in all regions.
+// R5.1: how a lookup ends: a live record of the key and its region, a bad place in the image, or none in all regions.
 pub enum Looked {
     Live { region: usize, rec: Record },
     Bad { fault: Fault, place: usize },
@@ -86,13 +86,13 @@ impl Looked {
     }
 }
 
-// The key's live record and its region, or why there is none.
+// R5.2, R5.5, R5.6: what get and the removals look for: the key's live record and its region, or the refusal where there is none.
 pub enum Hit {
     Live { region: usize, rec: Record },
     Refused(Refusal),
 }
 
-// One more region seen: the lookup goes on with what it has gathered, or it ends.
+// R5.1: one more region seen: the lookup goes on with what it has gathered, or it ends.
 pub enum Turn {
     More(Seen),
     Stop(Looked),

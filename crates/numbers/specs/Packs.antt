@@ -57,7 +57,7 @@ editNumbers (Edit.Kill how r x) =
     record { edit = killNumber how; version = x .version; flags = x .flags; region = r; at = x .at; size = x .len; found = x .key }
 editNumbers (Edit.Erase r) = slotAt 4 r 0
 
--- R12.4: the edits that are left have numbers: one, or a run of erases. No plan of today waits with more.
+-- R12.4: the edits that are left have numbers: none, one, or a run of erases. No plan of today waits with more.
 abbrev pub few : Edits → Bool
 few Edits.Nil = true
 few (Edits.One e) = true
@@ -90,15 +90,16 @@ abbrev pub seekNumbers : Aim → ℕ → Room → Next
 seekNumbers aim i Room.Nowhere = record { next = 1; aim = aimNumber aim; tag = 0; a = i; b = 0; c = 0 }
 seekNumbers aim i (Room.At r o blank) = record { next = 1; aim = aimNumber aim; tag = cond blank 2 1; a = i; b = r; c = o }
 
--- R12.4: an answer that is next, and what it carries. A refusal behind a write breaks the written rule (R8.10): 0, nothing that runs.
+-- R12.4: an answer that is next, and what it carries. A refusal behind a write or an erase breaks the written rule (R8.10): `next` is 0, as in
+-- numbers that stand for no operation.
 abbrev pub endNumbers : Answer → Next
 endNumbers (Complete len) = nextAt 3 len 0
 endNumbers Written = nextAt 4 0 0
 endNumbers (Freed bytes) = nextAt 5 bytes 0
 endNumbers (Refused w) = nextAt 0 0 0
 
--- R12.4: `next`: 1 seek, 2 sweep, 3 complete, 4 written, 5 freed. What the written rule lets no operation rest before, a value that is to be given and
--- a refusal after an edit, is 0: nothing that runs.
+-- R12.4: `next`: 1 a lookup, 2 collect's next region, 3 Complete, 4 Written, 5 Freed. Before a value that is to be handed over, or a refusal behind
+-- an edit, the written rule lets no operation rest (R8.10): `next` is 0, as in numbers that stand for no operation.
 abbrev pub nextNumbers : Then → Next
 nextNumbers (Then.Ends answer) = endNumbers answer
 nextNumbers (Then.Seek aim i seen) = seekNumbers aim i (seen .room)
@@ -150,8 +151,8 @@ inNumbers op slot next = record {
   c = next .c;
 }
 
--- R12.4, R12.7: a running operation in numbers. One that has ended keeps none of its plan, whose answer was given: 6. More edits than there are
--- numbers for are nothing that runs.
+-- R12.4, R12.7: a running operation in numbers. One that has ended keeps none of its plan, whose answer was given: `next` is 6. With more edits than
+-- there are numbers for (`few`), `next` is 0: the numbers stand for no operation.
 unfoldable pub packed : Op → COperation
 packed op =
     cond (over (op .plan)) (inNumbers op noSlot (nextAt 6 0 0))

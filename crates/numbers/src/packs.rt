@@ -16,7 +16,7 @@ use plans::Then;
 use running::Op;
 use running::Start;
 
-// The numbers of the edit that is left.
+// R12.4: the numbers of the edit that is left.
 pub struct Slot {
     pub edit: u32,
     pub version: u8,
@@ -27,7 +27,7 @@ pub struct Slot {
     pub found: u64,
 }
 
-// The numbers of what follows it.
+// R12.4: the numbers of what comes behind it.
 pub struct Next {
     pub next: u32,
     pub aim: u32,
@@ -175,7 +175,7 @@ fn seek_numbers(aim: Aim, i: usize, gathered: Room) -> Next
     }
 }
 
-// A refusal that comes after an edit breaks the rule, and is nothing that runs.
+// A refusal that comes after an edit breaks the rule: such numbers stand for no operation.
 fn end_numbers(answer: Answer) -> Next
     ensures { λ r. ⌜ r ≡ endNumbers answer ⌝ }
 {
@@ -187,7 +187,7 @@ fn end_numbers(answer: Answer) -> Next
     }
 }
 
-// A value is given within the step that comes to it: an operation that rests before it breaks the rule, and is nothing that runs.
+// A value is given within the step that comes to it: an operation that rests before it breaks the rule, and its numbers stand for none.
 fn next_numbers(next: Then) -> Next
     ensures { λ r. ⌜ r ≡ nextNumbers next ⌝ }
 {
@@ -277,7 +277,7 @@ fn in_numbers(op: Op, slot: Slot, next: Next) -> COperation
     }
 }
 
-// A running operation in numbers. One that has ended keeps none of its plan: its answer was given.
+// R12.4, R12.7: a running operation in numbers. One that has ended keeps none of its plan: its answer was given.
 pub fn pack(op: Op) -> COperation
     ensures { λ r. ⌜ r ≡ packed op ⌝ }
 {
@@ -303,6 +303,7 @@ fn pack_fresh(op: Op) -> COperation
     in_numbers(op, slot_at(0, 0, 0), next_numbers(next))
 }
 
+// R12.6: a start in numbers.
 pub fn pack_start(start: Start) -> CStart
     requires { ⌜ startLooks start ⌝ }
     ensures { λ r. ⌜ r ≡ startNumbers start ⌝ }

@@ -23,7 +23,7 @@ use Rattle.operations.specs.declared.unpacks.KnownReply.{KnownReply}
 abbrev pub lentIn : ℕ → ℕ → Lent
 lentIn lent len = cond (eqb lent 0) Lent.Nothing (cond (eqb lent 1) (Lent.Value len) (Lent.Buffer len))
 
--- R12.4: `at`, `size`, `version`, `flags` and `found`: the record that a removal makes dead.
+-- R12.4: `at`, `size`, `version`, `flags` and `found`: the record that a removal makes dead. Of its flags only the low three bits count.
 abbrev pub recordIn : COperation → Record
 recordIn o = record { at = o .at; len = o .size; version = o .version; flags = o .flags; key = o .found }
 
@@ -72,11 +72,11 @@ readAs o = record {
 
 -- Whether they are the numbers of what was read, and 0 where that has none. `own-numbers-only` and `unpacks-packed` say that these are the right tests.
 
--- R12.5: `fresh` is one that the header lists.
+-- R12.5: `fresh` is one of R12.4's.
 abbrev pub ownFresh : ℕ → Bool
 ownFresh fresh = cond (eqb fresh 1) true (eqb fresh 0)
 
--- R12.5: `lent` is one that the header lists, and `len` is 0 where nothing is lent.
+-- R12.5: `lent` is one of R12.4's, and `len` is 0 where nothing is lent.
 abbrev pub ownLent : ℕ → ℕ → Bool
 ownLent lent len = cond (eqb lent 0) (eqb len 0) (cond (eqb lent 1) true (eqb lent 2))
 
@@ -84,7 +84,7 @@ ownLent lent len = cond (eqb lent 0) (eqb len 0) (cond (eqb lent 1) true (eqb le
 abbrev pub bare : COperation → Bool
 bare o = eqb (o .size) 0 && (eqb (o .found) 0 && (eqb (o .version) 0 && eqb (o .flags) 0))
 
--- R12.5: `edit` is one that the header lists, and those of its numbers that it does not use are 0.
+-- R12.5: `edit` is one of R12.4's, and those of its numbers that R12.4 gives no meaning for it are 0.
 abbrev pub ownEdit : COperation → Bool
 ownEdit o =
     cond (eqb (o .edit) 0) (eqb (o .region) 0 && (eqb (o .at) 0 && bare o))
@@ -94,11 +94,11 @@ ownEdit o =
     (cond (eqb (o .edit) 4) (eqb (o .at) 0 && bare o)
     (eqb (o .edit) 5 && bare o)))))
 
--- R12.5: `aim` is one that the header lists.
+-- R12.5: `aim` is one of R12.4's for a lookup.
 abbrev pub ownAim : ℕ → Bool
 ownAim aim = cond (eqb aim 1) true (cond (eqb aim 2) true (cond (eqb aim 3) true (cond (eqb aim 4) true (eqb aim 5))))
 
--- R12.5: `tag` is one that the header lists, and without room gathered its region and place are 0.
+-- R12.5: `tag` is one of R12.4's for a lookup, and without room gathered its region and place are 0.
 abbrev pub ownGathered : ℕ → ℕ → ℕ → Bool
 ownGathered tag r o = cond (eqb tag 0) (eqb r 0 && eqb o 0) (cond (eqb tag 2) true (eqb tag 1))
 
@@ -114,7 +114,7 @@ leftIn o = cond (eqb (o .edit) 0) false (cond (eqb (o .edit) 5) (ltb (o .region)
 abbrev pub ownEnd : COperation → Bool
 ownEnd o = plain o && (eqb (o .b) 0 && leftIn o)
 
--- R12.5: `next` is 1 to 5, since 0 and 6 are nothing that runs, and those of its numbers that it does not use are 0.
+-- R12.5: `next` is 1 to 5: the others of R12.4's, 0 and 6, are for nothing that runs. Those of its numbers that R12.4 gives no meaning for it are 0.
 abbrev pub ownNext : COperation → Bool
 ownNext o =
     cond (eqb (o .next) 1) (ownAim (o .aim) && ownGathered (o .tag) (o .b) (o .c))
@@ -123,8 +123,8 @@ ownNext o =
     (cond (eqb (o .next) 4) (eqb (o .a) 0 && ownEnd o)
     (eqb (o .next) 5 && ownEnd o))))
 
--- R12.5: numbers stand for an operation: the layout is 8, each kind is one that the header lists, what is not used is 0, and an answer that is next
--- has something to write or erase before it.
+-- R12.5: numbers stand for an operation: the layout is 8, each of `fresh`, `lent`, `edit`, `next`, `aim` and `tag` is one of R12.4's for something
+-- that runs, every number that R12.4 gives no meaning for it is 0, and an answer that is next has something to write or erase before it.
 unfoldable pub standing : COperation → Bool
 standing o = eqb (o .layout) 8 && (ownNext o && (ownFresh (o .fresh) && (ownLent (o .lent) (o .len) && ownEdit o)))
 

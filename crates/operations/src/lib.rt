@@ -8,13 +8,12 @@ pub use unpacks::stands;
 ghost use mathlib.Core.Path.{_≡_};
 ghost use Rattle.operations.specs.Unpacks.{noOperation};
 
-// A running operation. `layout` says which numbering this is: a host may have kept an operation over an update of the library. What is not used is 0.
-// `fresh` is 1 where nothing was asked for yet; `lent` 0 nothing, 1 a value, 2 a buffer, of `len` bytes.
-// `edit` is the one edit that is left, 0 for none. A lay has its `region` and the place `at` there; an invalidate or zeroise the region and all
-// that the record is: `at`, its length `size`, its key `found`, `version` and `flags`; an erase the region; a run of erases the regions from `region` up to `at`.
-// `next` is what follows, 0 where that is nothing that runs. A seek has its `aim`, in `a` its index in the probe order, in `tag` 0 where no room is
-// gathered, 1 for room that is not blank, 2 for blank room, in `b` and `c` the room's region and place. A sweep has in `a` its region, in `b` the regions
-// erased before it; complete in `a` the length; freed in `a` the bytes.
+// R12.4: a running operation as twenty numbers. Those that R12.4 gives no meaning are 0.
+// `layout`: which numbering this is, since a host may keep an operation over an update of the library.
+// `fresh`: whether nothing was asked for yet. `lent`, `len`: what is lent, and its length. `s`, `n`, `key`: the chip and the key.
+// `edit`: what is written or erased first. `region`, `at`: where, or the run of regions. `size`, `found`, `version`, `flags`: a record to make dead.
+// `next`: what comes behind the edit. `aim`, `tag`: what a lookup is for, and which room it has gathered, with `b` and `c` for where.
+// `a`: how far a lookup or collect is, or what the answer carries. `b` of collect: how many of the regions before `a` were erased or are about to be.
 #[repr(C)]
 pub struct COperation {
     pub layout: u32,
@@ -79,7 +78,7 @@ impl COperation {
 
     pub const AIM_INITIALISE: u32 = 5;
 
-    // No operation.
+    // R12.6: twenty zeros, no operation.
     pub fn none() -> COperation
         ensures { λ r. ⌜ r ≡ noOperation ⌝ }
     {

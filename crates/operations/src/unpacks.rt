@@ -16,7 +16,7 @@ use plans::Then;
 use running::Op;
 use running::Reply;
 
-// The reply that a number stands for, where it stands for any.
+// R12.3: the reply that a number stands for, where it stands for any.
 pub enum KnownReply {
     Known(Reply),
     Unknown,
@@ -139,7 +139,7 @@ fn next_in(o: COperation) -> Then
     Then::Ends(Answer::Freed(o.a))
 }
 
-// What the numbers that are used say, each read as the last kind where it is the number of none: `stands` tells whether it is.
+// R12.4: what the numbers that are used say, each read as the last kind where it is the number of none: `stands` tells whether it is.
 pub fn read_as(o: COperation) -> Op
     ensures { λ r. ⌜ r ≡ readAs o ⌝ }
 {
@@ -285,7 +285,7 @@ fn own_next(o: COperation) -> bool
     o.next == COperation::NEXT_FREED && own_end(o)
 }
 
-// Whether numbers are those of a running operation. With anything more in them they are none: a step would not hand it back.
+// R12.5: whether numbers are those of a running operation. With anything more in them they are none: a step would not hand it back.
 pub fn stands(o: COperation) -> bool
     ensures { λ r. ⌜ r ≡ standing o ⌝ }
 {
@@ -304,7 +304,7 @@ pub fn stands(o: COperation) -> bool
     own_edit(o)
 }
 
-// The host's reply: 0 begin, 1 done, 2 not ready, 3 failed.
+// R12.3: the host's reply: 0 begin, 1 done, 2 not ready, 3 failed.
 pub fn known_reply(reply: u32) -> KnownReply
     ensures { λ r. ⌜ r ≡ knownReply reply ⌝ }
 {

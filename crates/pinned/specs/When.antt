@@ -100,7 +100,8 @@ pub data When (image : List ℕ) (s n : ℕ) : ℕ → Call → Type 0 where
       → lookupIn key Need.Nothing s image (probes key n) ≡ Looked.Live r x → valueLength x ≤ length buffer
       → checkSumFits (bytesIn (regionOf s image r) x) ≡ false → When image s n 10 (get key buffer)
 
--- R7.1: the answers that are no refusal, call by call: Complete with a length, Written, Freed with a number of bytes.
+-- R7.1: the answers that are no refusal, call by call: Complete with a length, Written, Freed with a number of bytes. What they carry is left open
+-- here, initialise's length too, which R7.1 says is 0: `initialise-complete` proves that.
 pub data Succeeds : Call → Answer → Type 0 where
   get-completes : {key : ℕ} {buffer : List ℕ} {len : ℕ} → Succeeds (get key buffer) (Complete len)
   append-writes : {key : ℕ} {value : List ℕ} → Succeeds (append key value) Written

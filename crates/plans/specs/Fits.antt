@@ -81,8 +81,10 @@ lentFor Aim.Initialise lent = lentNothing lent
 abbrev pub valueShort : Lent → Bool
 valueShort lent = leb (valueLent lent) (largestValue edition)
 
--- R8.10: what comes behind the edits lies in the chip: the place in the probe order and collect's next region are below N, and collect has
--- erased no more regions than it has passed.
+-- R8.10: what comes behind the edits. Where a lookup is next, what is lent is what it is for, the place in the probe order is below N, and the room
+-- that was gathered lies in a region below N and is long enough. Collect's next region is below N, and it has erased no more regions than it has
+-- passed. No operation rests before a value that is to be handed over (`rests`), but within a step one comes to it: its region is below N then, and
+-- its record has a length of 15 to 4,095 and lies within the region.
 abbrev pub thenFits : ℕ → ℕ → Lent → Then → Bool
 thenFits s n lent (Then.Ends answer) = true
 thenFits s n lent (Then.Seek aim i seen) = lentFor aim lent && (ltb i n && seenFits s n (valueLent lent) seen)

@@ -89,12 +89,12 @@ listed (Edits.Two e f) = e ∷ f ∷ []
 listed (Edits.Three e f g) = e ∷ f ∷ g ∷ []
 listed (Edits.Erases i m) = map Edit.Erase (numbers i (m - i))
 
--- R9.7: the image with these done, one after the other
+-- R9.7: what is left is done one after the other: the image that a list of edits makes of another
 unfoldable pub applied : ℕ → ℕ → List ℕ → List Edit → List ℕ → List ℕ
 applied s key value [] image = image
 applied s key value (e ∷ es) image = applied s key value es (edited s key value e image)
 
--- R9.7: the first that is left to do
+-- R9.7: what is left is done one after the other: the first of it, which comes next. In a run of erases with none left there is none (R8.10).
 abbrev pub first : Edits → First
 first Edits.Nil = First.Nothing
 first (Edits.One e) = First.Do e
@@ -102,7 +102,7 @@ first (Edits.Two e f) = First.Do e
 first (Edits.Three e f g) = First.Do e
 first (Edits.Erases i m) = cond (ltb i m) (First.Do (Edit.Erase i)) First.Nothing
 
--- R9.7: the others, once the first is done
+-- R9.7: what is left is done one after the other: the others, which are left once the first is done
 abbrev pub rest : Edits → Edits
 rest Edits.Nil = Edits.Nil
 rest (Edits.One e) = Edits.Nil

@@ -16,9 +16,9 @@ use format::Removal;
 use lookup::Seen;
 use refusals::Refusal;
 
-// What a call answers.
+// R7.1: what a call answers.
 pub enum Answer {
-    // With the value's length.
+    // With the value's length, 0 from initialise.
     Complete(usize),
     Written,
     // With the bytes freed.
@@ -26,7 +26,7 @@ pub enum Answer {
     Refused(Refusal),
 }
 
-// What a lookup is made for.
+// R5.1: what a lookup is for: get (R5.2), append (R5.3), initialise's too, a removal (R5.5, R5.6), or the get of initialise (R5.9).
 pub enum Aim {
     Get,
     Append,
@@ -34,7 +34,7 @@ pub enum Aim {
     Initialise,
 }
 
-// What the host lends beside the region buffer, with its length: append's value, get's buffer.
+// R8.2, R8.3: what the host lends beside the region buffer, with the length that was named at the start: append's value, get's buffer.
 pub enum Lent {
     Nothing,
     Value(usize),
@@ -65,14 +65,14 @@ impl Lent {
     }
 }
 
-// One write or one erase.
+// R1.3, R1.4: one erase or one write, which is one service (R8.4).
 pub enum Edit {
-    // The record of the call's key and value is written at a place of a region.
+    // R5.4: the record of the call's key and value is written at a place of a region.
     Lay {
         region: usize,
         at: usize,
     },
-    // A record of a region is made dead.
+    // R3.7: a record of a region is made dead.
     Kill {
         how: Removal,
         region: usize,
@@ -83,7 +83,7 @@ pub enum Edit {
     },
 }
 
-// A list of edits. Erases: the regions from one up to another.
+// R8.10: what is still to be written or erased, one after the other (R9.7). Erases: the regions from one up to another.
 pub enum Edits {
     Nil,
     One(Edit),
@@ -92,27 +92,27 @@ pub enum Edits {
     Erases { from: usize, to: usize },
 }
 
-// The first edit of a list.
+// R9.7: the first edit that is left, if any.
 pub enum First {
     Nothing,
     Do(Edit),
 }
 
-// What follows a plan's edits.
+// R8.10: what comes behind a plan's edits.
 pub enum Then {
     Ends(Answer),
-    // The i-th region of the key's probe order is looked at, with so much gathered before it.
+    // R5.1: the i-th region of the key's probe order is looked at, with so much gathered before it.
     Seek {
         aim: Aim,
         i: usize,
         seen: Seen,
     },
-    // Collect looks at a region, with so many regions erased before it.
+    // R5.7: collect looks at a region; of those before it so many were erased or are about to be (R12.4).
     Sweep {
         region: usize,
         erased: usize,
     },
-    // The value of a record of the region that was read last is given; `anew`: where it cannot be, the chip is made anew.
+    // R5.2: the value of a record of the region that was read last is given; `anew`: where it cannot be, the chip is made anew (R5.9).
     Gives {
         region: usize,
         rec: Record,
@@ -120,6 +120,7 @@ pub enum Then {
     },
 }
 
+// R8.10: what an operation has left to do: what it still writes or erases, and what comes behind that.
 pub struct Plan {
     pub edits: Edits,
     pub next: Then,

@@ -5,7 +5,7 @@ ghost use Rattle.refusals.specs.Refusals.{number, valueOf, refusalOf, re
 use format::Fault;
 use format::Record;
 
-// In the order of their numbers, 1 to 12.
+// R6.1 to R6.12: the refusals, in the order of their numbers, 1 to 12.
 pub enum Refusal {
     BadGeometry,
     BadKey,
@@ -15,7 +15,7 @@ pub enum Refusal {
     FlashFull,
     UnsupportedVersion,
     CorruptData,
-    // With the value's full length.
+    // R6.9: with the value's full length.
     BufferTooSmall(usize),
     InvalidCheckSum,
     BadCall,
@@ -74,7 +74,7 @@ impl Refusal {
     }
 }
 
-// Whether geometry, key and size are allowed.
+// R7.2: whether geometry, key and size are allowed; else the first of refusals 1, 2 and 3.
 pub enum Check {
     Fine,
     Refused(Refusal),

@@ -8,7 +8,7 @@ ghost use Rattle.region.specs.Walk.{isWanted, eventOf};
 use format::Fault;
 use format::Record;
 
-// How and where the records of a region stop: the end, or a bad place.
+// R4.7: how and where the walk of a region stopped: at its end, or at a bad place.
 pub enum Stop {
     End(usize),
     Bad(Fault, usize),
@@ -26,13 +26,13 @@ impl Stop {
     }
 }
 
-// What a walk meets at one place of a region.
+// R4.1: what a walk meets at one place of a region: a record (R4.6), or where it stops (R4.2 to R4.5).
 pub enum Met {
     Found(Record),
     Stop(Stop),
 }
 
-// What is looked for: a live record of the key, or any live record.
+// R4.8: what is looked for: a live record of the key, or any live record.
 pub enum Want {
     Key(u64),
     Any,
@@ -49,7 +49,7 @@ impl Want {
     }
 }
 
-// What decides a walk: a live record that is looked for, a bad place, or the end.
+// R4.8: what decides a walk: a live record that is looked for, a bad place, or the end.
 pub enum Event {
     Live(Record),
     Bad(Fault, usize),

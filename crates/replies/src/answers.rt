@@ -6,6 +6,7 @@ use crate::CRequest;
 use plans::Answer;
 use running::Request;
 
+// R12.1: an answer in numbers.
 pub fn answer_numbers(answer: Answer) -> CAnswer
     ensures { λ r. ⌜ r ≡ answerNumbers answer ⌝ }
 {
@@ -50,6 +51,7 @@ fn service(kind: u32, region: usize, from: usize, to: usize, place: usize) -> CR
     }
 }
 
+// R12.2: a request in numbers.
 pub fn request_numbers(request: Request) -> CRequest
     ensures { λ r. ⌜ r ≡ requestNumbers request ⌝ }
 {

@@ -1,5 +1,5 @@
--- The written rule: what every running operation that a start or a step hands back keeps, as a test on the operation alone; and the calls that it
--- allows.
+-- The written rule: what every running operation keeps that a start hands out, or a step that is no BadCall, as a test on the operation alone; and
+-- the calls that it allows.
 use Prim.Native.Nat.{ℕ}
 use mathlib.Core.Bool.{Bool, true, false, _&&_}
 use lib.Dec.{eqb}

@@ -9,7 +9,7 @@ use plans::Then;
 use running::Op;
 use running::Reply;
 
-// The rule as a test on the operation alone.
+// R8.10: the rule as a test on the operation alone.
 pub fn keeps_rule(op: Op) -> bool
     ensures { λ r. ⌜ r ≡ rule op ⌝ }
 {
@@ -123,7 +123,7 @@ fn buffers_fit(lent: Lent, value: usize, buffer: usize) -> bool
     }
 }
 
-// Whether a step may be taken with this reply and with buffers of these lengths. Where not, the answer is BadCall.
+// R6.11: whether a step may be taken with this reply and with buffers of these lengths. Where not, the answer is BadCall.
 pub fn call_fits(op: Op, reply: Reply, region: usize, value: usize, buffer: usize) -> bool
     ensures { λ r. ⌜ r ≡ callFits op reply region value buffer ⌝ }
 {

@@ -1,4 +1,4 @@
--- The written rule as facts, which functions inside ask for: what every running operation that a start or a step hands back keeps.
+-- The written rule as facts, which functions inside ask for: what every running operation keeps that a start hands out, or a step that is no BadCall.
 use mathlib.Core.Path.{_≡_}
 use mathlib.Core.Bool.{Bool, true, false}
 use Rattle.chip.specs.Geometry.{Shape}

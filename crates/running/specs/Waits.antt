@@ -19,7 +19,7 @@ abbrev pub withPlan : Op → Plan → Op
 withPlan op plan = record { s = op .s; n = op .n; key = op .key; lent = op .lent; fresh = false; plan = plan }
 
 -- R8.4: where nothing is left to write or erase: a read, of the lookup's region in probe order or of collect's next one; or the answer.
--- A value is given within the step that comes to it, so no operation waits there.
+-- A value is handed over within the step that comes to it, so no operation waits before one: the BadCall there does not come.
 abbrev pub waitNext : ℕ → ℕ → Then → Wait
 waitNext key n (Then.Ends answer) = Wait.Over answer
 waitNext key n (Then.Seek aim i seen) = Wait.Read (getD (probes key n) i 0)
@@ -46,7 +46,8 @@ requestEdit s len (Edit.Lay r o) = writeOf s len (Edit.Lay r o)
 requestEdit s len (Edit.Kill how r x) = writeOf s len (Edit.Kill how r x)
 requestEdit s len (Edit.Erase r) = Request.Erase r
 
--- R8.4: the request for what is waited for, or the answer. Before the first step nothing is asked for.
+-- R8.4: the request for what is waited for, or the answer. Before the first step there is none: the BadCall there does not come, since a step takes
+-- the request of the operation that it has led on, which is fresh no more (`withPlan`).
 abbrev pub requestFor : ℕ → ℕ → Wait → Request
 requestFor s len Wait.Begin = Request.Answers (Refused Refusal.BadCall)
 requestFor s len (Wait.Read r) = Request.Read r

@@ -19,7 +19,8 @@ use plans::Lent;
 use plans::Plan;
 use refusals::Refusal;
 
-// A running operation on a chip of n regions of s bytes: what is lent to it, and what is left of its plan. A fresh one has asked for nothing yet.
+// R8.1: a running operation, plain data, on a chip of n regions of s bytes: its key, what is lent to it, and what is left of its plan. A fresh one
+// has asked for nothing yet.
 pub struct Op {
     pub s: usize,
     pub n: usize,
@@ -60,13 +61,13 @@ impl Op {
     }
 }
 
-// A start hands out a running operation, or refuses at once and runs nothing.
+// R8.2: a start hands out a fresh operation, or refuses at once and runs nothing.
 pub enum Start {
     Runs(Op),
     Refused(Refusal),
 }
 
-// What the host says of the service that was asked for last.
+// R8.5: what the host says at a step: "begin" at the first, then of the service that was asked for last.
 pub enum Reply {
     Begin,
     Done,
@@ -74,7 +75,7 @@ pub enum Reply {
     Failed,
 }
 
-// What an operation waits for: the first step, a region that is read, an edit; or nothing more.
+// R8.4, R8.5: what an operation waits for: the first step, a region that is read, an edit; or nothing more.
 pub enum Wait {
     Begin,
     Read(usize),
@@ -82,7 +83,7 @@ pub enum Wait {
     Over(Answer),
 }
 
-// What a step asks of the host: to read a region into the buffer, to write the buffer's bytes from a place up to another at an image place,
+// R8.4: what a step asks of the host: to read a region into the buffer, to write the buffer's bytes from a place up to another at an image place,
 // or to erase a region; or its answer.
 pub enum Request {
     Read {

@@ -13,7 +13,7 @@ use plans::Plan;
 use plans::Then;
 use refusals::Check;
 
-// What a start refuses.
+// R7.2: what a start refuses.
 fn start_refusal(s: usize, n: usize, key: u64, len: usize) -> Check
     ensures { λ r. ⌜ r ≡ startRefusal s n key len ⌝ }
 {
@@ -47,32 +47,35 @@ fn look_started(aim: Aim, s: usize, n: usize, key: u64, lent: Lent) -> Start
     )
 }
 
-// `capacity` is the length of the buffer that will be lent.
+// R8.2: get's start. `capacity` is the length of the buffer that will be lent.
 pub fn start_get(s: usize, n: usize, key: u64, capacity: usize) -> Start
     ensures { λ r. ⌜ r ≡ getStarted s n key capacity ⌝ }
 {
     look_started(Aim::Get, s, n, key, Lent::Buffer(capacity))
 }
 
-// `len` is the length of the value that will be lent.
+// R8.2: append's start. `len` is the length of the value that will be lent.
 pub fn start_append(s: usize, n: usize, key: u64, len: usize) -> Start
     ensures { λ r. ⌜ r ≡ appendStarted s n key len ⌝ }
 {
     look_started(Aim::Append, s, n, key, Lent::Value(len))
 }
 
+// R8.2: invalidate's start.
 pub fn start_invalidate(s: usize, n: usize, key: u64) -> Start
     ensures { λ r. ⌜ r ≡ removeStarted Removal.Invalidate s n key ⌝ }
 {
     look_started(Aim::Remove(Removal::Invalidate), s, n, key, Lent::Nothing)
 }
 
+// R8.2: zeroise's start.
 pub fn start_zeroise(s: usize, n: usize, key: u64) -> Start
     ensures { λ r. ⌜ r ≡ removeStarted Removal.Zeroise s n key ⌝ }
 {
     look_started(Aim::Remove(Removal::Zeroise), s, n, key, Lent::Nothing)
 }
 
+// R8.2: collect's start. It has no key, and its operation carries 1.
 pub fn start_collect(s: usize, n: usize) -> Start
     ensures { λ r. ⌜ r ≡ collectStarted s n ⌝ }
 {
@@ -89,6 +92,7 @@ pub fn start_collect(s: usize, n: usize) -> Start
     )
 }
 
+// R8.2: initialise's start, with the main key.
 pub fn start_initialise(s: usize, n: usize, key: u64) -> Start
     ensures { λ r. ⌜ r ≡ initialiseStarted s n key ⌝ }
 {

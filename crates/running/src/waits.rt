@@ -19,6 +19,7 @@ use plans::First;
 use plans::Then;
 use refusals::Refusal;
 
+// R8.4, R8.5: what an operation waits for. The rule lets none wait before a value that is to be given: BadCall does not come.
 pub fn wait_of(op: Op) -> Wait
     requires { ⌜ Ruled op ⌝ }
     ensures { λ r. ⌜ r ≡ waitOf op ⌝ }
@@ -100,7 +101,7 @@ fn request_edit(s: usize, n: usize, len: usize, edit: Edit) -> Request
     }
 }
 
-// The service that an operation waits for, or its answer.
+// R8.4: the service that an operation waits for, or its answer. A step asks this of what it has led on, which is not fresh: BadCall does not come.
 pub fn request_of(op: Op) -> Request
     requires { ⌜ Ruled op ⌝ }
     ensures { λ q. ⌜ q ≡ requestOf op ⌝ }

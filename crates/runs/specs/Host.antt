@@ -121,7 +121,8 @@ unfoldable pub readies : List Beat → ℕ
 readies [] = 0
 readies (b ∷ beats) = oneIf b (readies beats)
 
--- R8.5: two runs stand at the same place: all is the same, but for the region buffer while a read is asked for (R8.9).
+-- R9.7: any number of "not ready" between changes nothing, which is said of two runs, with and without: they stand at the same place, and all is the
+-- same, but for the region buffer while a read is asked for, which may then hold anything (R8.9).
 pub record Same (run run′ : Run) : Type 0 where
   pub op-is : run .host .op ≡ run′ .host .op
   pub request-is : run .host .request ≡ run′ .host .request

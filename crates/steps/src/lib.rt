@@ -8,13 +8,14 @@ use running::Op;
 use running::Reply;
 use running::Request;
 
+// R8.3: what a step hands back: the operation as it then stands, and a request or the answer.
 pub struct Stepped {
     pub op: Op,
     pub request: Request,
 }
 
-// One step of a running operation. The host lends a region buffer of s bytes, and append's value or get's buffer, of the length named at
-// the start; where an operation has none of these, what is lent there is not looked at.
+// R8.3: one step of a running operation. The host lends a region buffer of s bytes, and append's value or get's buffer, of the length named at
+// the start; where an operation has none of these, what is lent there is not looked at. A call that does not fit is BadCall (R6.11).
 pub fn step(op: Op, reply: Reply, region: &mut [u8], value: &[u8], buffer: &mut [u8]) -> Stepped
     ensures { λ r. ⌜ (r ≡ stepped op reply (now (region .entry)) (now (value .entry)) (now (buffer .entry)))
         × (now (region .exit) ≡ regionAfter op reply (now (region .entry)) (now (value .entry)) (now (buffer .entry)))

@@ -34,7 +34,8 @@ unfoldable pub after : Op → List Given → Op
 after op [] = op
 after op (g ∷ gs) = after (next op g) gs
 
--- R13.3: the lengths are right and the reply says how a service went; which bytes are lent is open.
+-- R6.11: what a host gives, with no mistake, to a step once a service was asked for: the lengths are right, and the reply says how that went. Which
+-- bytes are lent, and which of the three replies it is, is open: told "done" as often as R9.6 says, an operation has then answered (R13.3).
 pub record Fair (op : Op) (g : Given) : Type 0 where
   pub region-long : length (g .region) ≡ op .s
   pub lent-right : LentRight (op .lent) (g .value) (g .buffer)

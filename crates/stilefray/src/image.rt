@@ -2,6 +2,7 @@
 ghost use Rattle.stilefray.specs.Allows.{GetKeyAllows, AppendKeyAllows, InvalidateKeyAllows, ZeroiseKeyAllows, GarbageCollectAllows, InitialiseAllows};
 use replies::CAnswer;
 
+// R5.2: get, its answer in numbers (R12.1), as all of these give it.
 #[no_mangle]
 pub extern "C" fn stilefray_get_key(
     image: &[u8],
@@ -15,6 +16,7 @@ pub extern "C" fn stilefray_get_key(
     replies::answer_numbers(store::get_key(image, s, n, key, buffer))
 }
 
+// R5.3, R5.4: append.
 #[no_mangle]
 pub extern "C" fn stilefray_append_key(
     image: &mut [u8],
@@ -28,6 +30,7 @@ pub extern "C" fn stilefray_append_key(
     replies::answer_numbers(store::append_key(image, s, n, key, value))
 }
 
+// R5.5: invalidate.
 #[no_mangle]
 pub extern "C" fn stilefray_invalidate_key(
     image: &mut [u8],
@@ -40,6 +43,7 @@ pub extern "C" fn stilefray_invalidate_key(
     replies::answer_numbers(store::invalidate_key(image, s, n, key))
 }
 
+// R5.6: zeroise.
 #[no_mangle]
 pub extern "C" fn stilefray_zeroise_key(image: &mut [u8], s: usize, n: usize, key: u64) -> CAnswer
     ensures { λ r. ⌜ ZeroiseKeyAllows (now (image .entry)) s n key r (now (image .exit)) ⌝ }
@@ -47,6 +51,7 @@ pub extern "C" fn stilefray_zeroise_key(image: &mut [u8], s: usize, n: usize, ke
     replies::answer_numbers(store::zeroise_key(image, s, n, key))
 }
 
+// R5.7, R5.8: collect.
 #[no_mangle]
 pub extern "C" fn stilefray_garbage_collect(image: &mut [u8], s: usize, n: usize) -> CAnswer
     ensures { λ r. ⌜ GarbageCollectAllows (now (image .entry)) s n r (now (image .exit)) ⌝ }
@@ -54,6 +59,7 @@ pub extern "C" fn stilefray_garbage_collect(image: &mut [u8], s: usize, n: usize
     replies::answer_numbers(store::garbage_collect(image, s, n))
 }
 
+// R5.9: initialise, with the main key.
 #[no_mangle]
 pub extern "C" fn stilefray_initialise(image: &mut [u8], s: usize, n: usize, key: u64) -> CAnswer
     ensures { λ r. ⌜ InitialiseAllows (now (image .entry)) s n key r (now (image .exit)) ⌝ }

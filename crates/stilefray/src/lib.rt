@@ -18,7 +18,7 @@ pub use stepped::stilefray_start_zeroise;
 pub use stepped::stilefray_step;
 ghost use Rattle.stilefray.specs.Allows.{ChecksumAllows};
 
-// The checksum alone.
+// R5.10: the checksum alone, of any bytes.
 #[no_mangle]
 pub extern "C" fn stilefray_checksum(bytes: &[u8]) -> u32
     ensures { λ r. ⌜ ChecksumAllows (now (bytes .entry)) r ⌝ }

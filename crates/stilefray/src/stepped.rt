@@ -10,6 +10,7 @@ use plans::Answer;
 use refusals::Refusal;
 use running::Request;
 
+// R8.2, R12.6: get's start, in numbers. `capacity` is the length of its buffer.
 #[no_mangle]
 pub extern "C" fn stilefray_start_get(s: usize, n: usize, key: u64, capacity: usize) -> CStart
     ensures { λ r. ⌜ StartGetAllows s n key capacity r ⌝ }
@@ -17,6 +18,7 @@ pub extern "C" fn stilefray_start_get(s: usize, n: usize, key: u64, capacity: us
     numbers::pack_start(running::start_get(s, n, key, capacity))
 }
 
+// R8.2, R12.6: append's start. `len` is the length of its value.
 #[no_mangle]
 pub extern "C" fn stilefray_start_append(s: usize, n: usize, key: u64, len: usize) -> CStart
     ensures { λ r. ⌜ StartAppendAllows s n key len r ⌝ }
@@ -24,6 +26,7 @@ pub extern "C" fn stilefray_start_append(s: usize, n: usize, key: u64, len: usiz
     numbers::pack_start(running::start_append(s, n, key, len))
 }
 
+// R8.2, R12.6: invalidate's start.
 #[no_mangle]
 pub extern "C" fn stilefray_start_invalidate(s: usize, n: usize, key: u64) -> CStart
     ensures { λ r. ⌜ StartInvalidateAllows s n key r ⌝ }
@@ -31,6 +34,7 @@ pub extern "C" fn stilefray_start_invalidate(s: usize, n: usize, key: u64) -> CS
     numbers::pack_start(running::start_invalidate(s, n, key))
 }
 
+// R8.2, R12.6: zeroise's start.
 #[no_mangle]
 pub extern "C" fn stilefray_start_zeroise(s: usize, n: usize, key: u64) -> CStart
     ensures { λ r. ⌜ StartZeroiseAllows s n key r ⌝ }
@@ -38,6 +42,7 @@ pub extern "C" fn stilefray_start_zeroise(s: usize, n: usize, key: u64) -> CStar
     numbers::pack_start(running::start_zeroise(s, n, key))
 }
 
+// R8.2, R12.6: collect's start.
 #[no_mangle]
 pub extern "C" fn stilefray_start_collect(s: usize, n: usize) -> CStart
     ensures { λ r. ⌜ StartCollectAllows s n r ⌝ }
@@ -45,6 +50,7 @@ pub extern "C" fn stilefray_start_collect(s: usize, n: usize) -> CStart
     numbers::pack_start(running::start_collect(s, n))
 }
 
+// R8.2, R12.6: initialise's start, with the main key.
 #[no_mangle]
 pub extern "C" fn stilefray_start_initialise(s: usize, n: usize, key: u64) -> CStart
     ensures { λ r. ⌜ StartInitialiseAllows s n key r ⌝ }
@@ -52,7 +58,7 @@ pub extern "C" fn stilefray_start_initialise(s: usize, n: usize, key: u64) -> CS
     numbers::pack_start(running::start_initialise(s, n, key))
 }
 
-// Numbers that stand for nothing: BadCall, and they stay as they are.
+// R6.11: numbers that stand for no operation or no reply: BadCall, and they stay as they are.
 fn bad_call(op: COperation) -> CStepped
     ensures { λ r. ⌜ r ≡ badCall op ⌝ }
 {
@@ -62,6 +68,7 @@ fn bad_call(op: COperation) -> CStepped
     }
 }
 
+// R8.3, R12.7: the step on what the numbers stand for.
 #[no_mangle]
 pub extern "C" fn stilefray_step(
     op: COperation,

@@ -32,14 +32,16 @@ pub record Done : Type 0 where
 abbrev pub refused : Refusal → List ℕ → Done
 refused w image = record { answer = Refused w; image = image }
 
--- R7.1: the plans of append and of the removals end with an answer.
+-- R7.1: the plans of append and of the removals end with an answer. The other three cases do not come: their BadCall only fills the lines, and the
+-- one-call form never answers it (pinned: `at-most-ten`).
 abbrev pub endOf : Then → Answer
 endOf (Then.Ends answer) = answer
 endOf (Then.Seek aim i seen) = Refused Refusal.BadCall
 endOf (Then.Sweep r k) = Refused Refusal.BadCall
 endOf (Then.Gives r x anew) = Refused Refusal.BadCall
 
--- R9.7: a plan carried out on an image: what it writes or erases, one after the other, and its answer.
+-- R5.4, R5.5, R5.6: what append and the removals come to, by their plan: its one write is done, or none where it refuses, and its answer is theirs.
+-- Both forms have the same plan, and that is why they end alike (R9.7).
 abbrev pub carried : ℕ → ℕ → List ℕ → List ℕ → Plan → Done
 carried s key value image p = record { answer = endOf (p .next); image = applied s key value (listed (p .edits)) image }
 

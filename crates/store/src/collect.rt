@@ -5,6 +5,7 @@ use plans::Answer;
 use refusals::Refusal;
 use sweeping::Verdict;
 
+// R5.7, R5.8: collect.
 pub fn garbage_collect(image: &mut [u8], s: usize, n: usize) -> Answer
     ensures { λ r. ⌜ (r ≡ collectOf (now (image .entry)) s n .answer) × (now (image .exit) ≡ collectOf (now (image .entry)) s n .image) ⌝ }
 {

@@ -4,6 +4,7 @@ ghost use Rattle.store.specs.Read.{getOf};
 use lookup::Hit;
 use plans::Answer;
 
+// R5.2: get.
 pub fn get_key(image: &[u8], s: usize, n: usize, key: u64, buffer: &mut [u8]) -> Answer
     ensures { λ r. ⌜ (r ≡ getOf (now (image .entry)) s n key (now (buffer .entry)) .answer) × (now (buffer .exit) ≡ getOf (now (image .entry)) s n key (now (buffer .entry)) .buffer) ⌝ }
 {

@@ -59,7 +59,7 @@ fn make_edits(image: &mut [u8], s: usize, n: usize, edits: Edits, key: u64, valu
     }
 }
 
-// The answer of a plan that ends with one.
+// The answer of a plan that ends with one, as those of append and the removals do: BadCall does not come.
 fn end_of(next: Then) -> Answer
     ensures { λ r. ⌜ r ≡ endOf next ⌝ }
 {
@@ -80,6 +80,7 @@ fn carry_out(image: &mut [u8], s: usize, n: usize, plan: Plan, key: u64, value: 
     end_of(next)
 }
 
+// R5.3, R5.4: append.
 pub fn append_key(image: &mut [u8], s: usize, n: usize, key: u64, value: &[u8]) -> Answer
     ensures { λ r. ⌜ (r ≡ appendOf (now (image .entry)) s n key (now (value .entry)) .answer) × (now (image .exit) ≡ appendOf (now (image .entry)) s n key (now (value .entry)) .image) ⌝ }
 {
@@ -93,6 +94,7 @@ pub fn append_key(image: &mut [u8], s: usize, n: usize, key: u64, value: &[u8]) 
     carry_out(image, s, n, plan, key, value)
 }
 
+// R5.5, R5.6: either removal.
 fn remove(image: &mut [u8], s: usize, n: usize, key: u64, how: Removal) -> Answer
     ensures { λ r. ⌜ (r ≡ removeOf how (now (image .entry)) s n key .answer) × (now (image .exit) ≡ removeOf how (now (image .entry)) s n key .image) ⌝ }
 {
@@ -104,18 +106,21 @@ fn remove(image: &mut [u8], s: usize, n: usize, key: u64, how: Removal) -> Answe
     carry_out(image, s, n, plan, key, b"")
 }
 
+// R5.5: invalidate.
 pub fn invalidate_key(image: &mut [u8], s: usize, n: usize, key: u64) -> Answer
     ensures { λ r. ⌜ (r ≡ removeOf Removal.Invalidate (now (image .entry)) s n key .answer) × (now (image .exit) ≡ removeOf Removal.Invalidate (now (image .entry)) s n key .image) ⌝ }
 {
     remove(image, s, n, key, Removal::Invalidate)
 }
 
+// R5.6: zeroise.
 pub fn zeroise_key(image: &mut [u8], s: usize, n: usize, key: u64) -> Answer
     ensures { λ r. ⌜ (r ≡ removeOf Removal.Zeroise (now (image .entry)) s n key .answer) × (now (image .exit) ≡ removeOf Removal.Zeroise (now (image .entry)) s n key .image) ⌝ }
 {
     remove(image, s, n, key, Removal::Zeroise)
 }
 
+// R5.9: initialise, with the main key.
 pub fn initialise(image: &mut [u8], s: usize, n: usize, key: u64) -> Answer
     ensures { λ r. ⌜ (r ≡ initialiseOf (now (image .entry)) s n key .answer) × (now (image .exit) ≡ initialiseOf (now (image .entry)) s n key .image) ⌝ }
 {

@@ -32,7 +32,8 @@ verdictOn r region (Event.End o) = cond (noRecords (records region)) Verdict.Sta
 abbrev pub verdict : ℕ → List ℕ → Verdict
 verdict r region = verdictOn r region (eventIn region Want.Any)
 
--- R5.7: region r comes next, with k regions erased before it. Behind the last one the answer is Freed with S times the number of regions erased.
+-- R5.7: region r comes next, and k of those before it were erased or are about to be (R12.4). Behind the last one the answer is Freed with S times
+-- their number.
 abbrev pub sweptTo : ℕ → ℕ → ℕ → ℕ → Then
 sweptTo s n r k = cond (ltb r n) (Then.Sweep r k) (Then.Ends (Answer.Freed (k * s)))
 
