@@ -4,7 +4,7 @@
 
 use crate::fault_list::{faults, Fault};
 use crate::straight::{self, Outcome};
-use crate::{crate_side, ours};
+use crate::{crate_side, failing, ours};
 use std::io::{Read, Write};
 use std::process::{Command, Stdio};
 use std::time::{Duration, Instant};
@@ -90,8 +90,8 @@ pub fn run() -> Result<(), String> {
     let list = faults();
     println!("faults: {} inputs", list.len());
     let failed = list.iter().enumerate().filter(|(index, fault)| !show(*index, fault)).count();
-    if failed > 0 {
-        Err(format!("{failed} faults are not as listed"))
+    if failed > 0 || !failing::show() {
+        Err(format!("{failed} faults are not as listed, or a failed read at initialise is not"))
     } else {
         Ok(())
     }

@@ -10,6 +10,7 @@ mod crate_side;
 mod domain;
 mod driver;
 mod every_image;
+mod failing;
 mod fault_list;
 mod faults;
 mod histories;
