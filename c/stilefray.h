@@ -92,7 +92,10 @@ extern "C" {
 #define STILEFRAY_AIM_ZEROISE 4
 #define STILEFRAY_AIM_INITIALISE 5
 
-/* What the host says to a step. */
+/*
+ * What the host says to a step. A service that it gives up, by FAILED or by no further step, must be over before the first service of the
+ * next operation is begun (R13.6); docs/HOST.md has a loop that sees to it.
+ */
 #define STILEFRAY_BEGIN 0     /* the first step, and only the first */
 #define STILEFRAY_DONE 1      /* the service is done */
 #define STILEFRAY_NOT_READY 2 /* it is not done yet: the step repeats the request and alters nothing */
@@ -203,7 +206,7 @@ stilefray_answer stilefray_garbage_collect(uint8_t *image, size_t image_len, siz
 
 /*
  * Initialise (R5.9): sees to it that the chip is one of this store's. The key is the main key: on a chip that tickv wrote, the very hash
- * that was given to tickv. With any other key the whole chip is erased.
+ * that was given to tickv. With any other key the whole chip is erased; another s or n than the chip was written with may erase it too.
  *
  * COMPLETE, value 0: the main key's record was there, with an empty value and a right checksum; nothing changed. WRITTEN: a get of the
  * main key into an empty buffer was refused (by 4, 7, 8, 9 or 10), so every region was erased and the main key appended with an empty

@@ -1,6 +1,6 @@
 /*
- * The library from C: versions, layouts, the afternoons (R15), refusals by number, a run of each operation one service at a time, and null
- * pointers with length 0.
+ * The library from C: versions, layouts, the afternoons (R15), refusals by number, a run of each operation one service at a time, services
+ * that end after their operation, and null pointers with length 0.
  */
 #include "stilefray.h"
 #include <stdio.h>
@@ -242,6 +242,60 @@ static void runs(uint8_t *nothing) {
     CHECK(strcmp(did, "r0 r1 e1 r2 r3 ") == 0 && all(chip + 64, 64, 255) && chip[128] == 1);
 }
 
+/* Runs an operation up to its first request of this kind, which is begun, not ready, and then given up: it ends after its operation. */
+static stilefray_request given_up(stilefray_start start, uint32_t kind) {
+    stilefray_stepped now = stilefray_step(start.op, STILEFRAY_BEGIN, region, S, sevens, 5, one, 1);
+    stilefray_request late;
+    did[0] = 0;
+    while (now.request.kind != kind) {
+        CHECK(now.request.kind != STILEFRAY_ANSWER);
+        serve(now.request);
+        now = stilefray_step(now.op, STILEFRAY_DONE, region, S, sevens, 5, one, 1);
+    }
+    late = now.request;
+    now = stilefray_step(now.op, STILEFRAY_NOT_READY, region, S, sevens, 5, one, 1);
+    now = stilefray_step(now.op, STILEFRAY_FAILED, region, S, sevens, 5, one, 1);
+    CHECK(refused(now.request.answer, STILEFRAY_FLASH_FAILED));
+    return late;
+}
+
+/* Over before the next operation, as R13.6 has it: that one answers as if it had come in time. */
+static void late_services(void) {
+    uint8_t buffer[5];
+    erase_chip();
+    CHECK(written(append(1, 5)));
+    serve(given_up(stilefray_start_get(S, N, 2, 1), STILEFRAY_READ));
+    CHECK(written(drive(stilefray_start_append(S, N, 5, 5), sevens, 5, NULL, 0)) && strcmp(did, "r1 r2 r0 r3 w84-104 ") == 0);
+    CHECK(is(get(1, buffer, 5), STILEFRAY_COMPLETE, 0, 5) && is(get(5, buffer, 5), STILEFRAY_COMPLETE, 0, 5));
+    serve(given_up(stilefray_start_append(S, N, 2, 5), STILEFRAY_WRITE));
+    CHECK(refused(drive(stilefray_start_append(S, N, 2, 5), sevens, 5, NULL, 0), STILEFRAY_KEY_ALREADY_EXISTS));
+    CHECK(is(drive(stilefray_start_get(S, N, 2, 5), NULL, 0, buffer, 5), STILEFRAY_COMPLETE, 0, 5) && all(buffer, 5, 7));
+    serve(given_up(stilefray_start_zeroise(S, N, 2), STILEFRAY_WRITE));
+    CHECK(refused(drive(stilefray_start_get(S, N, 2, 5), NULL, 0, buffer, 5), STILEFRAY_KEY_NOT_FOUND));
+    serve(given_up(stilefray_start_collect(S, N), STILEFRAY_ERASE));
+    CHECK(is(drive(stilefray_start_collect(S, N), NULL, 0, NULL, 0), STILEFRAY_FREED, 0, 0) && all(chip + 128, 64, 255));
+    CHECK(is(get(1, buffer, 5), STILEFRAY_COMPLETE, 0, 5) && is(get(5, buffer, 5), STILEFRAY_COMPLETE, 0, 5));
+}
+
+/* Not over: the append takes the end of the old read, of a blank region, for its own, and answers Written over the record of key 1. */
+static void late_service_not_waited_for(void) {
+    stilefray_request late;
+    stilefray_stepped now;
+    uint8_t buffer[5];
+    erase_chip();
+    CHECK(written(append(1, 5)));
+    late = given_up(stilefray_start_get(S, N, 2, 1), STILEFRAY_READ);
+    now = stilefray_step(stilefray_start_append(S, N, 9, 5).op, STILEFRAY_BEGIN, region, S, sevens, 5, NULL, 0);
+    CHECK(now.request.kind == STILEFRAY_READ && now.request.region == 1 && late.region == 2);
+    serve(late);
+    now = stilefray_step(now.op, STILEFRAY_DONE, region, S, sevens, 5, NULL, 0);
+    while (now.request.kind != STILEFRAY_ANSWER) {
+        serve(now.request);
+        now = stilefray_step(now.op, STILEFRAY_DONE, region, S, sevens, 5, NULL, 0);
+    }
+    CHECK(written(now.request.answer) && refused(get(1, buffer, 5), STILEFRAY_INVALID_CHECK_SUM));
+}
+
 static void bad_calls(void) {
     stilefray_operation op = stilefray_start_get(S, N, 1, 1).op;
     stilefray_stepped now;
@@ -411,6 +465,8 @@ int main(void) {
     refusals_1_to_3();
     runs(one);
     runs(NULL);
+    late_services();
+    late_service_not_waited_for();
     bad_calls();
     forged_seeks();
     forged_edits();
