@@ -4,11 +4,14 @@ use super::{append, free_place, get, said};
 use super::{FLASH_FULL, KEY_NOT_FOUND, OK};
 use stilefray::{image, Success};
 
+/// Keys and their values.
+type Values = Vec<(u64, Vec<u8>)>;
+
 /// A chip of 4 regions of 1,024 bytes, its main key, and what is stored on it.
-fn chip(dice: &mut Dice) -> (Vec<u8>, u64, Vec<(u64, Vec<u8>)>) {
+fn chip(dice: &mut Dice) -> (Vec<u8>, u64, Values) {
     let (main, mut chip) = (dice.next(), vec![255; 4096]);
     assert_eq!(image::initialise(&mut chip, 1024, 4, main), Ok(Success::Written));
-    let values = (0..12).map(|i| (dice.next(), vec![i; (dice.next() % 200) as usize])).collect::<Vec<_>>();
+    let values = (0..12).map(|i| (dice.next(), vec![i; (dice.next() % 200) as usize])).collect::<Values>();
     values.iter().for_each(|(key, value)| assert_eq!(append(&mut chip, 1024, 4, *key, value), OK));
     (chip, main, values)
 }
