@@ -131,19 +131,20 @@ fn look(chip: &mut [u8]) {
 }
 
 /// Where all that is dead was zeroised, the look puts right whatever an erase leaves that was cut off, and collect finds nothing more to
-/// do. Bits that became 1, in any order, or in the order of places, and bits that went the other way, as a flash leaves them that clears
-/// a region before it erases it.
+/// do. Bits that became 1, in any order, in the order of places, or just those that make a record live; and bits that went the other way,
+/// as a flash leaves them that clears a region before it erases it.
 #[test]
 fn a_look_at_every_region_puts_a_cut_erase_right() {
     let mut dice = Dice(3);
     let (mut wrong, zeroised) = (0, chip(image::zeroise_key));
     for turn in 0..20_000 {
         let mut left = zeroised.clone();
-        match turn % 5 {
+        match turn % 6 {
             0 => cut(&mut left, |_| dice.next() as u8),
             1 => cut(&mut left, |_| (dice.next() & dice.next() & dice.next()) as u8),
-            2 => cut(&mut left, |place| if place < turn / 5 % S { 255 } else { 0 }),
-            3 => cut(&mut left, |place| if place >= turn / 5 % S { 255 } else { 128 }),
+            2 => cut(&mut left, |place| if place < turn / 6 % S { 255 } else { 0 }),
+            3 => cut(&mut left, |place| if place >= turn / 6 % S { 255 } else { 128 }),
+            4 => cut(&mut left, |place| if place == 1 || place == 28 { dice.next() as u8 & 128 } else { 0 }),
             _ => left[S..2 * S].iter_mut().for_each(|byte| *byte &= dice.next() as u8),
         }
         wrong += usize::from(!is_right(&left));
