@@ -1,6 +1,8 @@
 //! What a write leaves that stops half way, by a loss of power or a service that failed, and what the retry answers: the table of
 //! docs/WORKSHOP.md, for every number of bytes after which an append or a removal can be cut. A write is taken to put its bytes down from
-//! the first to the last; the two tests whose names end in `was_not_written` are about a flash that does not.
+//! the first to the last; the two tests whose names end in `was_not_written` are about a flash that does not. The page's recipes are tried
+//! beside it: `cut::failed`, where the place is known, `cut::mended`, where it is not, `cut::erased`, after an erase that was cut off, and
+//! `cut::moved`, for a chip that tickv wrote.
 mod cut;
 
 use cut::{append, free_place, get, probe_order, said, scenes, Behind, Scene, Stands, N};
@@ -245,6 +247,8 @@ fn zeroise_cut(scene: &Scene) {
         } else {
             assert_eq!(cut[start + count.max(11)..], scene.whole[start + count.max(11)..]);
             scene.answers_when_dead(&cut, scene.record.len());
+            cut[start + 11..start + scene.record.len()].fill(0);
+            assert_eq!(cut, zeroised, "finished by zeros from byte 11 to the end");
         }
     }
 }

@@ -1,4 +1,11 @@
 //! A chip on which an append is cut off, what then stands at its place, and what each call has to answer.
+mod erased;
+mod failed;
+mod hands;
+mod mended;
+mod moved;
+mod walk;
+
 use stilefray::{image, Refusal};
 
 /// How many regions a scene's chip has.
