@@ -27,7 +27,8 @@
 //!
 //! # Coming from tickv
 //!
-//! **Pass to [`initialise`](Store::initialise) the very main-key hash that you gave tickv, or the chip is erased.**
+//! **Pass to [`initialise`](Store::initialise) the very main-key hash that you gave tickv, or the chip is erased.** With another size or
+//! number of regions than tickv had it may be erased too.
 //!
 //! | tickv 2.0.0 | here |
 //! |---|---|
