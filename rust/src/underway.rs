@@ -93,6 +93,12 @@ pub struct Underway<'o, F: Flash> {
     waited: u32,
 }
 
+/// What is not a service that is done.
+enum Other<E> {
+    NotDone(NotDone<E>),
+    Answer(Answer),
+}
+
 /// What an operation borrows of its store.
 pub(crate) struct Host<'o, F: Flash> {
     pub flash: &'o mut F,
@@ -114,27 +120,17 @@ impl<'o, F: Flash> Underway<'o, F> {
     /// Does one service of the operation. Once it has answered, every further call answers BadCall and asks the flash for nothing.
     #[inline]
     pub fn serve(&mut self) -> Served<F::Error> {
-        let request = self.asks();
-        let done = match request {
-            Request::Read { region } => self.flash.read_region(region, self.region_buffer),
-            Request::Write { from, to, place } => match self.region_buffer.get(from..to) {
-                Some(bytes) => self.flash.write(place, bytes),
-                // A write's bytes lie in the region buffer, that is proved: this is no write that this crate knows.
-                None => return self.answers(Err(Refusal::UnknownKind(2))),
-            },
-            Request::Erase { region } => self.flash.erase_region(region),
-            Request::Answer(answer) => return self.answers(answer.map_err(Refusal::without_failure)),
-        };
-        *self.begun = if let Err(NotDone::NotReady) = done { Some(request) } else { None };
-        match done {
-            Ok(()) if self.settles => self.settled(),
-            Ok(()) => self.goes_on(),
-            Err(NotDone::Failed(error)) => self.fails(request, Reason::Failed(error)),
-            Err(NotDone::NotReady) if self.waited < self.limit => {
-                self.waited += 1;
-                Served::NotReady
+        if self.settles {
+            return self.settle();
+        }
+        match self.ask(self.request) {
+            Ok(()) => {
+                if self.waited > 0 {
+                    *self.begun = None;
+                }
+                self.goes_on()
             }
-            Err(NotDone::NotReady) => self.fails(request, Reason::NeverReady { limit: self.limit }),
+            Err(other) => self.not_done(self.request, other),
         }
     }
 
@@ -184,8 +180,58 @@ impl<'o, F: Flash> Underway<'o, F> {
         self.flash
     }
 
-    /// What is asked of the flash now: what it has begun for an earlier operation, or the operation's own.
+    /// Asks the flash for a service.
     #[inline]
+    fn ask(&mut self, request: Request) -> Result<(), Other<F::Error>> {
+        let done = match request {
+            Request::Read { region } => self.flash.read_region(region, self.region_buffer),
+            Request::Write { from, to, place } => match self.region_buffer.get(from..to) {
+                Some(bytes) => self.flash.write(place, bytes),
+                // A write's bytes lie in the region buffer, that is proved: this is no write that this crate knows.
+                None => return Err(Other::Answer(Err(Refusal::UnknownKind(2)))),
+            },
+            Request::Erase { region } => self.flash.erase_region(region),
+            Request::Answer(answer) => return Err(Other::Answer(answer)),
+        };
+        done.map_err(Other::NotDone)
+    }
+
+    /// What comes of a service that is not done; or there is none, and this is the answer.
+    #[cold]
+    fn not_done(&mut self, request: Request, other: Other<F::Error>) -> Served<F::Error> {
+        let reason = match other {
+            Other::Answer(answer) => return self.answers(answer.map_err(Refusal::without_failure)),
+            Other::NotDone(NotDone::Failed(error)) => {
+                *self.begun = None;
+                Reason::Failed(error)
+            }
+            Other::NotDone(NotDone::NotReady) => {
+                *self.begun = Some(request);
+                if self.waited < self.limit {
+                    self.waited += 1;
+                    return Served::NotReady;
+                }
+                Reason::NeverReady { limit: self.limit }
+            }
+        };
+        self.fails(request, reason)
+    }
+
+    /// First comes what the flash has begun for an earlier operation, until it is over.
+    #[cold]
+    fn settle(&mut self) -> Served<F::Error> {
+        let request = self.asks();
+        match self.ask(request) {
+            Ok(()) => {
+                *self.begun = None;
+                (self.settles, self.waited) = (false, 0);
+                Served::More
+            }
+            Err(other) => self.not_done(request, other),
+        }
+    }
+
+    /// What is asked of the flash next: what it has begun for an earlier operation, or the operation's own.
     fn asks(&self) -> Request {
         match *self.begun {
             Some(begun) if self.settles && !self.has_ended() => begun,
@@ -197,13 +243,6 @@ impl<'o, F: Flash> Underway<'o, F> {
     fn step(&mut self, reply: Reply) -> Request {
         self.waited = 0;
         self.running.step(reply, self.region_buffer, self.value, self.buffer)
-    }
-
-    /// What was begun for an earlier operation is over: now comes the first service of this one.
-    #[cold]
-    fn settled(&mut self) -> Served<F::Error> {
-        (self.settles, self.waited) = (false, 0);
-        Served::More
     }
 
     /// The service at hand is done.
