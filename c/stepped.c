@@ -68,9 +68,8 @@ static stilefray_answer run(stilefray_start start, const uint8_t *value, size_t 
     stilefray_answer refused = {STILEFRAY_REFUSED, start.refusal, 0};
     stilefray_stepped now;
     if (start.refusal != 0) return refused;
-    ask(under_way); /* a service that was given up: until it is over, nothing of this operation is begun */
-    refused.refusal = STILEFRAY_FLASH_FAILED;
-    if (under_way.kind != 0) return refused;
+    refused.refusal = STILEFRAY_FLASH_FAILED; /* a service that was given up: until it is done, nothing of this operation is begun */
+    if (ask(under_way) != STILEFRAY_DONE) return refused;
     now = stilefray_step(start.op, STILEFRAY_BEGIN, region, S, value, value_len, buffer, buffer_len);
     while (now.request.kind != STILEFRAY_ANSWER)
         now = stilefray_step(now.op, ask(now.request), region, S, value, value_len, buffer, buffer_len);

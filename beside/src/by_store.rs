@@ -92,5 +92,5 @@ pub fn names_failure(said: &Said, fails: Option<&Service>, done: usize) -> bool 
         Service::Erase(region) => stilefray::Service::Erase { region: *region },
     });
     let reason = Reason::Failed(Fault(done));
-    failure.copied() == service.map(|service| Failure { service, reason })
+    failure.copied() == service.map(|service| Failure { service, reason, earlier: false })
 }

@@ -28,7 +28,7 @@ impl Flash for Chip {
 fn main() -> Result<(), StoreRefusal<Chip>> {
     let mut region_buffer = [0u8; 1024];
     let mut store = Store::new(Chip([[0; 1024]; 4]), &mut region_buffer, 4);
-    // The main key: with any other than the chip's own, or another size or number of regions, the chip is erased.
+    // The main key: with any other than the chip's own the chip is erased, and with other regions it may be.
     if store.initialise(1000)? == Success::Written {
         eprintln!("a new chip");
     }

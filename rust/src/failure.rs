@@ -58,10 +58,12 @@ pub enum Reason<E> {
 ///
 /// ```
 /// use stilefray::{Failure, Reason, Service};
-/// let failed = Failure { service: Service::Read { region: 3 }, reason: Reason::Failed(()) };
+/// let failed = Failure { service: Service::Read { region: 3 }, reason: Reason::Failed(()), earlier: false };
 /// assert_eq!(failed.to_string(), "the read of region 3: the flash failed");
-/// let never: Failure<()> = Failure { service: Service::Write { place: 64, length: 18 }, reason: Reason::NeverReady { limit: 9 } };
-/// let words = "the write of 18 bytes at place 64: the flash was not ready, more often in a row than the limit of 9";
+/// let service = Service::Write { place: 64, length: 18 };
+/// let never: Failure<()> = Failure { service, reason: Reason::NeverReady { limit: 9 }, earlier: true };
+/// let words = "the write of 18 bytes at place 64, of an earlier operation: \
+///     the flash was not ready, more often in a row than the limit of 9";
 /// assert_eq!(never.to_string(), words);
 /// ```
 #[derive(Clone, Copy, Debug, PartialEq, Eq)]
@@ -70,6 +72,9 @@ pub struct Failure<E> {
     pub service: Service,
     /// Why.
     pub reason: Reason<E>,
+    /// Whether it is a service that an earlier operation had [begun](crate::Store::begun): the operation that is refused has then asked
+    /// for nothing of its own, and what is to be mended is the earlier one's.
+    pub earlier: bool,
 }
 
 impl<E> Failure<E> {
@@ -105,7 +110,8 @@ impl<E> fmt::Display for Reason<E> {
 
 impl<E> fmt::Display for Failure<E> {
     fn fmt(&self, f: &mut fmt::Formatter<'_>) -> fmt::Result {
-        write!(f, "{}: {}", self.service, self.reason)
+        let earlier = if self.earlier { ", of an earlier operation" } else { "" };
+        write!(f, "{}{earlier}: {}", self.service, self.reason)
     }
 }
 

@@ -47,7 +47,8 @@ impl<E: Error + 'static> Error for NotDone<E> {
 ///
 /// That holds also where the operation is given up meanwhile, by the store's [limit](crate::Store::set_limit) or because its
 /// [`Underway`](crate::Underway) is dropped: the store's next operation makes that same call, until the service is over, before it asks
-/// for anything of its own ([`Store::begun`](crate::Store::begun)). So a flash of one store never has two services at once.
+/// for anything of its own ([`Store::begun`](crate::Store::begun)). So a flash never has two services at once, as long as one
+/// store is kept for it.
 ///
 /// What is lent to a call is lent for that call alone. While a write is not ready it is called again with the same bytes, but a flash
 /// that goes on reading them between two calls, or writing to a buffer, as by DMA, needs a copy of its own.
@@ -84,7 +85,7 @@ impl<E: Error + 'static> Error for NotDone<E> {
 /// use stilefray::{Failure, Reason, Refusal, Service};
 /// let mut region_buffer = [0u8; 64];
 /// let refusal = Store::new(Chip, &mut region_buffer, 4).get_key(5, &mut []).unwrap_err();
-/// let failure = Failure { service: Service::Read { region: 1 }, reason: Reason::Failed(BusError::Stuck) };
+/// let failure = Failure { service: Service::Read { region: 1 }, reason: Reason::Failed(BusError::Stuck), earlier: false };
 /// assert_eq!(refusal, Refusal::FlashFailed(failure));
 /// ```
 pub trait Flash {

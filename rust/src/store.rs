@@ -114,7 +114,7 @@ impl<'a, F: Flash> Store<'a, F> {
     ///
     /// let mut region_buffer = [0u8; 64];
     /// let mut store = Store::new(Stuck, &mut region_buffer, 4).with_limit(1000);
-    /// let failure = Failure { service: Service::Read { region: 1 }, reason: Reason::NeverReady { limit: 1000 } };
+    /// let failure = Failure { service: Service::Read { region: 1 }, reason: Reason::NeverReady { limit: 1000 }, earlier: false };
     /// assert_eq!(store.append_key(1, b"gains"), Err(Refusal::FlashFailed(failure)));
     /// ```
     pub fn set_limit(&mut self, limit: u32) {
@@ -218,15 +218,18 @@ impl<'a, F: Flash> Store<'a, F> {
 
     /// The service that the flash has begun and not ended: the last that said NotReady, where its operation was given up by the limit or
     /// by [dropping](Underway) it. The next operation asks for it again, with the same bytes, before anything of its own, until it is
-    /// done; what was given up has then done that service too (R11.9 of docs/RULES.md). If it fails, that operation ends as FlashFailed,
-    /// and the one after it begins with a service of its own.
+    /// done; what was given up has then done that service too (R11.9 of docs/RULES.md). If it fails, that operation ends as FlashFailed
+    /// with [`earlier`](Failure::earlier), and the one after it begins with a service of its own.
+    ///
+    /// It is known to this store alone: keep one store for as long as the flash is used, or see that this is `None` before the store is
+    /// dropped.
     #[must_use]
     pub fn begun(&self) -> Option<Service> {
         self.begun.and_then(Service::of)
     }
 
-    /// Forgets the service that the flash had [begun](Store::begun), for a flash that was reset meanwhile: it is not asked for again. What
-    /// a write or an erase leaves that was broken off is not promised (R13.8).
+    /// Forgets the service that the flash had [begun](Store::begun), for a flash that was reset, or whose chip was erased or exchanged: it
+    /// is not asked for again. What a write or an erase leaves that was broken off is not promised (R13.8).
     pub fn forget_begun(&mut self) {
         self.begun = None;
     }
@@ -237,8 +240,8 @@ impl<'a, F: Flash> Store<'a, F> {
         &self.flash
     }
 
-    /// The flash, to alter. What is changed behind the store's back is taken as it is found; one that is reset may have
-    /// [begun](Store::forget_begun) a service.
+    /// The flash, to alter. What is changed behind the store's back is taken as it is found. Where the flash is reset, its chip erased or
+    /// exchanged, call [`forget_begun`](Store::forget_begun) too: otherwise the next operation first asks for the service that was begun.
     #[must_use]
     pub fn flash_mut(&mut self) -> &mut F {
         &mut self.flash

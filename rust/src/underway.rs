@@ -258,7 +258,8 @@ impl<'o, F: Flash> Underway<'o, F> {
     /// A service is taken for failed, which ends the operation (R8.5 of docs/RULES.md).
     #[cold]
     fn fails(&mut self, request: Request, reason: Reason<F::Error>) -> Served<F::Error> {
-        let failed = Service::of(request).map(|service| Failure { service, reason });
+        let earlier = self.settles;
+        let failed = Service::of(request).map(|service| Failure { service, reason, earlier });
         let refusal = match (self.step(Reply::Failed), failed) {
             (Request::Answer(Err(Refusal::FlashFailed(()))), Some(failure)) => Refusal::FlashFailed(failure),
             (Request::Answer(Err(refusal)), _) => refusal.without_failure(),

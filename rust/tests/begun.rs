@@ -72,10 +72,10 @@ fn a_write_given_up_by_the_limit_does_not_swallow_the_next_one() {
     (0..N).for_each(|_| assert_eq!(append.serve(), Served::More));
     append.flash_mut().takes = 9;
     let (service, reason) = (Service::Write { place: 64, length: 20 }, Reason::NeverReady { limit: 3 });
-    assert_eq!(append.finish(), Err(Refusal::FlashFailed(Failure { service, reason })));
+    assert_eq!(append.finish(), Err(Refusal::FlashFailed(Failure { service, reason, earlier: false })));
     assert_eq!(store.begun(), Some(service));
     // The flash is still at it: the next operation waits for it in turn, and is refused by the same service.
-    assert_eq!(store.append_key(2, b"second"), Err(Refusal::FlashFailed(Failure { service, reason })));
+    assert_eq!(store.append_key(2, b"second"), Err(Refusal::FlashFailed(Failure { service, reason, earlier: true })));
     store.flash_mut().takes = 0;
     // Then it is over: the first is stored, since its write is done, and the second is written by a service of its own.
     assert_eq!(store.append_key(2, b"second"), Ok(()));
@@ -96,7 +96,7 @@ fn one_that_fails_after_all_ends_the_next_operation_and_no_more() {
     let service = Service::Read { region: 1 };
     assert_eq!(store.begun(), Some(service));
     let failure = store.append_key(2, b"two").unwrap_err();
-    assert_eq!(failure.failure().map(|failure| failure.service), Some(service));
+    assert_eq!(failure.failure().map(|failure| (failure.service, failure.earlier)), Some((service, true)));
     store.flash_mut().fails_at = None;
     assert_eq!((store.begun(), store.append_key(2, b"two")), (None, Ok(())));
 }

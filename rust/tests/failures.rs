@@ -66,7 +66,10 @@ fn fails(call: &Call, fails_at: usize) {
     assert_eq!(chip.did, services[..fails_at], "{call:?}");
     assert_eq!(chip.image, after(&services[..fails_at]), "{call:?}");
     let expected = match services.get(fails_at) {
-        Some(did) => Err(Refusal::FlashFailed(Failure { service: did.service(), reason: Reason::Failed(Fault(fails_at)) })),
+        Some(did) => {
+            let reason = Reason::Failed(Fault(fails_at));
+            Err(Refusal::FlashFailed(Failure { service: did.service(), reason, earlier: false }))
+        }
         None => whole.answer.map_err(|refusal| panic!("{refusal}")),
     };
     assert_eq!(answer, expected, "{call:?}");
@@ -124,7 +127,7 @@ fn waits(call: &Call, from: usize, limit: u32, waits: u32) {
         assert_eq!((answer.map_err(Refusal::plain), &chip.image), (whole.answer, &whole.image), "{call:?}");
         return;
     }
-    let failure = Failure { service: services[from].service(), reason: Reason::NeverReady { limit } };
+    let failure = Failure { service: services[from].service(), reason: Reason::NeverReady { limit }, earlier: false };
     assert_eq!(answer, Err(Refusal::FlashFailed(failure)), "{call:?}");
     assert_eq!((chip.did.as_slice(), chip.waited), (&services[..from], limit as usize + 1));
     assert_eq!(chip.image, after(&services[..from]));
@@ -170,7 +173,7 @@ fn a_failure_says_what_it_was_and_leads_to_the_flash_s_own_error() {
     assert_eq!((failure.error(), failure.source().unwrap().downcast_ref()), (Some(&Fault(1)), Some(&Fault(1))));
     assert_eq!((refusal.number(), refusal.plain()), (12, Refusal::FlashFailed(())));
 
-    let never: Failure<Fault> = Failure { service: Service::Erase { region: 3 }, reason: Reason::NeverReady { limit: 0 } };
+    let never: Failure<Fault> = Failure { service: Service::Erase { region: 3 }, reason: Reason::NeverReady { limit: 0 }, earlier: false };
     assert_eq!(never.to_string(), "the erase of region 3: the flash was not ready, more often in a row than the limit of 0");
     assert!(never.source().is_none() && never.error().is_none());
     assert!(Refusal::FlashFailed(never).source().is_none());

@@ -139,11 +139,11 @@ fn a_failure_and_the_limit_end_a_future_too() {
     let mut chip = slow(blank(), 0);
     chip.fails_at = Some(4);
     let mut store = Store::new(chip, &mut region, N).with_limit(3);
-    let failure = Failure { service: Service::Write { place: 64, length: 18 }, reason: Reason::Failed(Fault(4)) };
+    let failure = Failure { service: Service::Write { place: 64, length: 18 }, reason: Reason::Failed(Fault(4)), earlier: false };
     assert_eq!(run(store.append_key_async(1, b"abc"), no_interrupt).answer, Err(Refusal::FlashFailed(failure)));
 
     store.flash_mut().waits = 9;
-    let failure = Failure { service: Service::Read { region: 0 }, reason: Reason::NeverReady { limit: 3 } };
+    let failure = Failure { service: Service::Read { region: 0 }, reason: Reason::NeverReady { limit: 3 }, earlier: false };
     let took = run(store.garbage_collect_async(), no_interrupt);
     assert_eq!(took, Took { answer: Err(Refusal::FlashFailed(failure)), polls: 4, sleeps: 0 });
 }
