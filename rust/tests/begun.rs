@@ -1,6 +1,6 @@
 //! A service that the flash has begun is ended before another is asked for, though its operation was given up: by the limit, or dropped.
 mod common;
-use common::{blank, Call, Chip, Numbers, N, S};
+use common::{blank, calls, used, Call, Chip, Numbers, N, S};
 use std::collections::BTreeMap;
 use stilefray::{Failure, Flash, NotDone, Reason, Refusal, Served, Service, Store};
 
@@ -101,28 +101,13 @@ fn one_that_fails_after_all_ends_the_next_operation_and_no_more() {
     assert_eq!((store.begun(), store.append_key(2, b"two")), (None, Ok(())));
 }
 
-/// A chip on which each call has something to do.
-fn used() -> Vec<u8> {
-    let mut store_region = [0; S];
-    let mut store = Store::new(Chip::new(S, blank()), &mut store_region, N);
-    store.append_key(1, &[7; 49]).unwrap();
-    store.append_key(5, &[8; 4]).unwrap();
-    store.append_key(4, &[9; 4]).unwrap();
-    store.invalidate_key(1).unwrap();
-    store.into_flash().image
-}
-
 /// Given up while the service after so many is under way: that one is ended first, with the same bytes, and then comes the next operation's
 /// own. The chip itself asserts that no other service is asked for meanwhile.
 fn ended_first(call: &Call, count: usize, waits: usize) {
     let (_, services) = call.by_steps(&used(), S, N);
-    let (mut region, mut buffer) = ([0; S], call.buffer());
+    let mut region = [0; S];
     let mut store = Store::new(Chip::new(S, used()), &mut region, N);
-    let mut underway = call.underway(&mut store, &mut buffer).unwrap();
-    (0..count).for_each(|_| assert_eq!(underway.serve(), Served::More));
-    underway.flash_mut().waits = waits;
-    (0..waits).for_each(|_| assert_eq!(underway.serve(), Served::NotReady));
-    drop(underway);
+    call.given_up(&mut store, count, waits);
     assert_eq!(store.begun(), Some(services[count].service()));
     let next = store.start_get_key(63, &mut []).unwrap();
     assert_eq!(next.waits_for(), Some(services[count].service()));
@@ -134,8 +119,7 @@ fn ended_first(call: &Call, count: usize, waits: usize) {
 
 #[test]
 fn it_is_ended_first_at_every_point_of_every_operation() {
-    let calls = [Call::Get(5, 6), Call::Append(9, vec![3; 5]), Call::Invalidate(5), Call::Zeroise(5), Call::Collect, Call::Initialise(8)];
-    for call in calls {
+    for call in calls() {
         let (_, services) = call.by_steps(&used(), S, N);
         let points = (0..services.len()).flat_map(|count| [(count, 1), (count, 2)]);
         points.for_each(|(count, waits)| ended_first(&call, count, waits));

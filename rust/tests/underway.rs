@@ -1,9 +1,9 @@
 //! An operation under way: one service at a time, given up at every point, and asked after its end.
 mod common;
-use common::{blank, Call, Chip, Numbers, N, S};
+use common::{blank, calls, used, Call, Chip, Numbers, N, S};
 use std::collections::BTreeMap;
 use std::task::Poll;
-use stilefray::{image, Answer, Refusal, Served, Store, Success, Underway};
+use stilefray::{Answer, Refusal, Served, Store, Success, Underway};
 
 #[test]
 fn one_service_at_a_time_with_other_work_between() {
@@ -45,28 +45,6 @@ fn it_shows_what_it_waits_for_and_none_of_the_bytes() {
     let mut append = store.start_append_key(1, b"abc").unwrap();
     assert_eq!(append.serve(), Served::NotReady);
     assert_eq!(format!("{append:?}"), "Underway { waits_for: Some(Read { region: 1 }), waited: 1, limit: 7, .. }");
-}
-
-/// A chip on which each call has something to do.
-fn used() -> Vec<u8> {
-    let mut chip = blank();
-    image::append_key(&mut chip, S, N, 1, &[7; 49]).unwrap();
-    image::append_key(&mut chip, S, N, 5, &[8; 4]).unwrap();
-    image::append_key(&mut chip, S, N, 4, &[9; 4]).unwrap();
-    image::invalidate_key(&mut chip, S, N, 1).unwrap();
-    chip
-}
-
-fn calls() -> [Call; 7] {
-    [
-        Call::Get(5, 6),
-        Call::Get(5, 3),
-        Call::Append(9, vec![3; 5]),
-        Call::Invalidate(5),
-        Call::Zeroise(5),
-        Call::Collect,
-        Call::Initialise(8),
-    ]
 }
 
 /// After its end it waits for nothing, answers BadCall and asks the flash for nothing.
@@ -123,11 +101,7 @@ fn given_up(call: &Call, count: usize, waits: usize) {
     let (whole, services) = call.by_steps(&used(), S, N);
     let (mut region, mut buffer) = ([0; S], call.buffer());
     let mut store = Store::new(Chip::new(S, used()), &mut region, N);
-    let mut underway = call.underway(&mut store, &mut buffer).unwrap();
-    (0..count).for_each(|_| assert_eq!(underway.serve(), Served::More));
-    underway.flash_mut().waits = waits;
-    (0..waits).for_each(|_| assert_eq!(underway.serve(), Served::NotReady));
-    drop(underway);
+    call.given_up(&mut store, count, waits);
     store.flash_mut().reset();
     store.forget_begun();
     assert_eq!(store.flash().did, services[..count], "{call:?}");

@@ -6,7 +6,7 @@ pub mod rule;
 use std::fmt;
 use stilefray::ffi::Operation;
 use stilefray::stepped::{Reply, Request, Running};
-use stilefray::{image, Answer, Flash, NotDone, Service, Store, StoreRefusal, Underway};
+use stilefray::{image, Answer, Flash, NotDone, Served, Service, Store, StoreRefusal, Underway};
 
 /// The afternoons' chip.
 pub const S: usize = 64;
@@ -196,6 +196,15 @@ impl Call {
         }
     }
 
+    /// The call served so often, then so often not ready, and dropped.
+    pub fn given_up(&self, store: &mut Store<'_, Chip>, count: usize, waits: usize) {
+        let mut buffer = self.buffer();
+        let mut underway = self.underway(store, &mut buffer).unwrap();
+        (0..count).for_each(|_| assert_eq!(underway.serve(), Served::More));
+        underway.flash_mut().waits = waits;
+        (0..waits).for_each(|_| assert_eq!(underway.serve(), Served::NotReady));
+    }
+
     pub fn value(&self) -> &[u8] {
         match self {
             Call::Append(_, value) => value,
@@ -259,4 +268,27 @@ impl Numbers {
     pub fn below(&mut self, limit: usize) -> usize {
         (self.next() % limit as u64) as usize
     }
+}
+
+/// A chip on which each call has something to do.
+pub fn used() -> Vec<u8> {
+    let mut chip = blank();
+    image::append_key(&mut chip, S, N, 1, &[7; 49]).unwrap();
+    image::append_key(&mut chip, S, N, 5, &[8; 4]).unwrap();
+    image::append_key(&mut chip, S, N, 4, &[9; 4]).unwrap();
+    image::invalidate_key(&mut chip, S, N, 1).unwrap();
+    chip
+}
+
+/// A call of each operation, and a get into too little.
+pub fn calls() -> [Call; 7] {
+    [
+        Call::Get(5, 6),
+        Call::Get(5, 3),
+        Call::Append(9, vec![3; 5]),
+        Call::Invalidate(5),
+        Call::Zeroise(5),
+        Call::Collect,
+        Call::Initialise(8),
+    ]
 }
