@@ -67,7 +67,8 @@ fn read_digits(input: &[u8], at: usize) -> Read
         if !is_digit(byte) {
             return Read { value, end };
         }
-        value = hold(value * 10 + (byte - b'0') as usize);
+        let digit = (byte - b'0') as usize;
+        value = hold(value * 10 + digit);
         end += 1;
     }
     Read { value, end }

@@ -1,6 +1,6 @@
 -- `intake::read_digits` meets its contract. The loop's invariant: what is left, read on from what is held, gives the number.
 -- The measure is what is left of the length. Assumes nothing.
-use Prim.Native.Nat.{ℕ, _-_}
+use Prim.Native.Nat.{ℕ, _-_, _≤_}
 use native.Mathlib.Omega.{arith}
 use mathlib.Core.Bool.{true}
 use mathlib.Core.Path.{_≡_, sym, _∙_}
@@ -31,23 +31,26 @@ is-digit-requires c κs = search needs
 returns : tie.Need-returns Inv-loop μ-loop
 returns c = reading-stops (c .before .before .before .before .loop .inv) (c .before .before .before .loop-test .taken) (sym (c .before .is-digit .ensures) ∙ not-true _ (c .if1 .taken))
 
-mul-hold : tie.Need-mul-hold Inv-loop μ-loop
-mul-hold c = search needs
-
 abbrev byte : tie.Else1 Inv-loop μ-loop → ℕ
 byte c = getD (now (c .before .before .before .before .before .before .args .input)) (c .before .before .before .before .loop .end) 0
 
-digit : (c : tie.Else1 Inv-loop μ-loop) → isDigit (byte c) ≡ true
-digit c = sym (c .before .is-digit .ensures) ∙ not-false _ (c .if1 .left)
+digit-here : (c : tie.Else1 Inv-loop μ-loop) → isDigit (byte c) ≡ true
+digit-here c = sym (c .before .is-digit .ensures) ∙ not-false _ (c .if1 .left)
 
-sub-hold : tie.Need-sub-hold Inv-loop μ-loop
-sub-hold c = digit-range (byte c) (digit c) .0
+range : (c : tie.Else1 Inv-loop μ-loop) → (48 ≤ byte c) × (byte c ≤ 57)
+range c = digit-range (byte c) (digit-here c)
 
-cast-hold : tie.Need-cast-hold Inv-loop μ-loop
-cast-hold c = record { fits = omega (arith, digit-range (byte c) (digit c) .1) }
+sub-digit : tie.Need-sub-digit Inv-loop μ-loop
+sub-digit c = omega (arith, range c .0)
+
+cast-digit : tie.Need-cast-digit Inv-loop μ-loop
+cast-digit c = record { fits = omega (arith, range c .1) }
+
+mul-hold : tie.Need-mul-hold Inv-loop μ-loop
+mul-hold c = record { fits = omega (arith, range c .1, c .before .before .before .before .loop .inv .small) }
 
 add-hold : tie.Need-add-hold Inv-loop μ-loop
-add-hold c = record { fits = omega (arith, digit-range (byte c) (digit c) .1, c .before .before .before .before .loop .inv .small) }
+add-hold c = record { fits = omega (arith, range c .1, c .before .before .before .before .loop .inv .small) }
 
 hold-requires : tie.Need-hold-requires Inv-loop μ-loop
 hold-requires c κs = search needs
@@ -59,7 +62,7 @@ loop-less : tie.Need-loop-less Inv-loop μ-loop
 loop-less c = search needs
 
 loop-again : tie.Need-loop-again Inv-loop μ-loop
-loop-again c = reading-on (c .before .before .before .before .before .loop .inv) (c .before .before .before .before .loop-test .taken) (digit (c .before)) (c .hold .ensures)
+loop-again c = reading-on (c .before .before .before .before .before .loop .inv) (c .before .before .before .before .loop-test .taken) (digit-here (c .before)) (c .hold .ensures)
 
 returns-2 : tie.Need-returns-2 Inv-loop μ-loop
 returns-2 c = reading-over (c .before .loop .inv) (c .loop-test .left)
@@ -74,9 +77,9 @@ read-digits-spec =
     shared-slice-read-byte
     is-digit-requires
     returns
+    sub-digit
+    cast-digit
     mul-hold
-    sub-hold
-    cast-hold
     add-hold
     hold-requires
     add-end
