@@ -11,7 +11,7 @@ use mathlib.Core.List.{List}
 use lib.Dec.{leb, eqb}
 use lib.ListN.{length, getD, drop, List·getD-eq-default}
 use borrow.Author.Tests.{leb-true, eqb-true, eq-eqb, ne-eqb}
-use Rattle.chip.specs.Geometry.{geometry, Shape, Fits}
+use Rattle.chip.specs.Geometry.{geometry, Fits}
 use Rattle.chip.proofs.Image.{both, geometry-fits}
 use Rattle.intake.specs.declared.Intake.{Intake}
 use Rattle.intake.specs.Intake.{mostImage, numberAt, sizeIn, countIn, imageStart, accepted, intakeOf}
@@ -41,7 +41,7 @@ pub image-fits : (image : List ℕ) (s n : ℕ) → isImage image s n ≡ true �
 image-fits image s n e = let b = both _ _ e in (geometry-fits (b .1), leb-true _ _ (b .0))
 
 -- There is a region, and it has a byte: neither number is larger than their product.
-image-small : (image : List ℕ) (s n : ℕ) → isImage image s n ≡ true → (s ≤ mostImage) × (n ≤ mostImage)
+pub image-small : (image : List ℕ) (s n : ℕ) → isImage image s n ≡ true → (s ≤ mostImage) × (n ≤ mostImage)
 image-small image s n e =
     let f = image-fits image s n e in
     let h = f .0 .shape in
@@ -189,6 +189,16 @@ accepted-facts input {s} {n} {start} e = go (accepted input) refl e
           feed-is = eqb-true _ 10 (y .1);
           image-is-one = (λ i. isImage (drop (sym r i) input) (sym p i) (sym q i)) ∙ x .1;
         }
+
+pub facts-accepted : (input : List ℕ) {s n start : ℕ} → Accepted input s n start → intakeOf input ≡ Intake.Chip s n start
+facts-accepted input {s} {n} {start} a =
+    let p = a .size-is in
+    let q = a .count-is in
+    let r = a .start-is in
+    let x : spaceStands input ≡ true = eq-eqb _ 32 (a .space-is) in
+    let y : feedStands input ≡ true = eq-eqb _ 10 (a .feed-is) in
+    let z : imageStands input ≡ true = (λ i. isImage (drop (r i) input) (p i) (q i)) ∙ a .image-is-one in
+    sym (takes input (λ i. x i && y i && z i)) ∙ (λ i. Intake.Chip (p i) (q i) (r i))
 
 -- Whoever is answered so has an image of N regions of S bytes from that place on, of 65,536 bytes at most, and the place lies in the input.
 pub taken : (input : List ℕ) {s n start : ℕ} → intakeOf input ≡ Intake.Chip s n start → Fits (drop start input) s n × (n * s ≤ mostImage) × (start ≤ length input)
