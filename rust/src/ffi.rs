@@ -1,5 +1,5 @@
-//! The library's calls in its own numbers, as R12 of docs/RULES.md has them and `c/stilefray.h` declares them. The rest of the crate gives them names; most users need
-//! nothing from here.
+//! The library's calls in its own numbers, as R12 and R16.11 of docs/RULES.md have them and `c/stilefray.h` declares them. The rest of
+//! the crate gives them names; most users need nothing from here.
 //!
 //! Every `unsafe` of the crate stands in this file. The functions here are safe because the library asks only that each pointer lead to
 //! as many bytes as its length says and that no two lent parts overlap where one is written (R12.8), which Rust's slices always keep. It is

@@ -1,6 +1,8 @@
 //! A look into images (R16): a key's value where it lies is what get copies, and the records are those of a straight reading of R3, R4 and
 //! R16 below; on chips that the store wrote, on damaged ones, and on any bytes.
 mod common;
+#[path = "look/page.rs"]
+mod page;
 use common::{used, Numbers, N, S};
 use std::ops::Range;
 use stilefray::image::{self, BadPlace, Entry, Place, Record, Shown};
@@ -41,7 +43,7 @@ fn places(part: &[u8], image: &[u8]) -> Range<usize> {
     lies.start as usize - all.start as usize..lies.end as usize - all.start as usize
 }
 
-/// What stands at a place of a region (R4.2 to R4.6), and where to go on in the region: a record, the end, or what a bad place is refused by.
+/// What stands at a place of a region (R4.2 to R4.6): a record and the place behind it, the end, or what a bad place is refused by.
 fn stands(image: &[u8], s: usize, region: usize, place: usize) -> Result<Option<(Read, usize)>, Refusal> {
     let bytes = &image[region * s..][..s];
     if place > s || s - place < 15 || bytes[place] == 255 {
@@ -139,15 +141,15 @@ fn forged(numbers: &mut Numbers, s: usize, n: usize) -> Vec<u8> {
     for region in chip.chunks_mut(s) {
         let mut rest = region;
         while rest.len() >= 15 && numbers.below(16) > 0 {
-            let length = if numbers.below(40) == 0 { numbers.below(20) } else { 15 + numbers.below(rest.len() - 14) % 40 };
-            let key = KEYS[numbers.below(KEYS.len())];
-            rest[..3].copy_from_slice(&[1, (numbers.next() as u8 & 0xF0) | (length / 256) as u8, length as u8]);
-            rest[3..11].copy_from_slice(&key.to_be_bytes());
-            if length >= 15 && numbers.below(2) == 0 {
-                let sum = sum_of(&rest[..length - 4]);
-                rest[length - 4..length].copy_from_slice(&sum.to_le_bytes());
+            let length = 15 + numbers.below(rest.len() - 14) % 40;
+            let said = if numbers.below(40) == 0 { [0, 14, rest.len() + 1, 4095][numbers.below(4)] } else { length };
+            rest[..3].copy_from_slice(&[1, (numbers.next() as u8 & 0xF0) | (said / 256) as u8, said as u8]);
+            rest[3..11].copy_from_slice(&KEYS[numbers.below(KEYS.len())].to_be_bytes());
+            let (summed, sum) = rest[..length].split_at_mut(length - 4);
+            if numbers.below(2) == 0 {
+                sum.copy_from_slice(&sum_of(summed).to_le_bytes());
             }
-            rest = &mut rest[length.max(15)..];
+            rest = &mut rest[length..];
         }
         rest.fill(if numbers.below(4) > 0 { 255 } else { 2 });
     }
@@ -349,4 +351,19 @@ fn a_bad_place_is_an_error() {
     goes_anywhere(&records);
     let error: Box<dyn std::error::Error> = records.last().unwrap().unwrap_err().into();
     assert_eq!(error.to_string(), format!("region 2 is bad at place 0: {}", CorruptData::<()>));
+}
+
+/// What the page shows, letter for letter, and that it does what it says.
+#[test]
+fn the_look_that_the_page_shows() {
+    let shown = include_str!("look/page.rs").split_once("\n\n").unwrap().1;
+    assert!(include_str!("../../docs/WORKSHOP.md").contains(&format!("```rust\n{shown}```\n")));
+    let mut chip = used();
+    assert_eq!((page::first_gain(&chip), page::faults(&chip)), (Err(KeyNotFound), Ok(vec![])));
+    image::append_key(&mut chip, S, N, 101, &[64, 80]).unwrap();
+    assert_eq!((page::first_gain(&chip), page::faults(&chip)), (Ok(Some(64)), Ok(vec![])));
+    chip[11] ^= 1; // the value of key 4, in region 0
+    chip[192] = 7;
+    let faults = ["key 4: wrong checksum", "region 3 is bad at place 0: a record of an unknown version"];
+    assert_eq!(page::faults(&chip), Ok(faults.map(String::from).into()));
 }
