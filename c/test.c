@@ -230,20 +230,23 @@ static int stands(stilefray_entry e, uint32_t live, uint32_t sound, uint64_t key
            e.length == len && e.next.region == place / S && e.next.place == place % S + len + 4;
 }
 
-/* Region 1: live, dead, live with a wrong checksum. Region 2: a record up to its end. Region 3: a dead one, zeroised. */
+/* Region 1: live, dead, live with a wrong checksum. Region 2: two records up to its end. Region 3: a dead one, zeroised. */
 static void entries(void) {
     erase_chip();
-    CHECK(written(append(1, 3)) && written(append(5, 0)) && written(append(9, 1)) && written(append(2, 49)) && written(append(3, 2)));
-    CHECK(written(stilefray_invalidate_key(chip, CHIP, S, N, 5)) && written(stilefray_zeroise_key(chip, CHIP, S, N, 3)));
+    CHECK(written(append(1, 3)) && written(append(5, 0)) && written(append(9, 1)) && written(append(2, 34)) && written(append(6, 0)));
+    CHECK(written(append(3, 2)) && written(stilefray_zeroise_key(chip, CHIP, S, N, 3)));
+    CHECK(written(stilefray_invalidate_key(chip, CHIP, S, N, 5)));
     chip[108] ^= 1; /* the value of key 9 */
     CHECK(stands(entry(1, 0), 1, 1, 1, 75, 3) && stands(entry(1, 18), 0, 0, 5, 93, 0) && stands(entry(1, 33), 1, 0, 9, 108, 1));
-    CHECK(stands(entry(2, 0), 1, 1, 2, 139, 49) && stands(entry(3, 0), 0, 0, 3, 203, 2));
+    CHECK(stands(entry(2, 0), 1, 1, 2, 139, 34) && stands(entry(2, 49), 1, 1, 6, 188, 0) && stands(entry(3, 0), 0, 0, 3, 203, 2));
     CHECK(other(entry(0, 0), STILEFRAY_ENTRY_END, 0, 1, 0) && other(entry(1, 49), STILEFRAY_ENTRY_END, 0, 2, 0));
     CHECK(other(entry(1, 50), STILEFRAY_ENTRY_END, 0, 2, 0) && other(entry(2, 64), STILEFRAY_ENTRY_END, 0, 3, 0));
     CHECK(other(entry(3, 65), STILEFRAY_ENTRY_END, 0, 4, 0) && other(entry(0, SIZE_MAX), STILEFRAY_ENTRY_END, 0, 1, 0));
     CHECK(other(entry(4, 0), STILEFRAY_ENTRY_NONE, 0, 4, 0) && other(entry(SIZE_MAX, 9), STILEFRAY_ENTRY_NONE, 0, SIZE_MAX, 9));
     CHECK(other(entry(1, 1), STILEFRAY_ENTRY_BAD, STILEFRAY_UNSUPPORTED_VERSION, 2, 0)); /* no record begins there */
-    chip[66] = 14;
+    chip[64] = 2;
+    CHECK(other(entry(1, 0), STILEFRAY_ENTRY_BAD, STILEFRAY_UNSUPPORTED_VERSION, 2, 0));
+    chip[64] = 1, chip[66] = 14;
     CHECK(other(entry(1, 0), STILEFRAY_ENTRY_BAD, STILEFRAY_CORRUPT_DATA, 2, 0));
     chip[66] = 65; /* past the region's end */
     CHECK(other(entry(1, 0), STILEFRAY_ENTRY_BAD, STILEFRAY_CORRUPT_DATA, 2, 0));
