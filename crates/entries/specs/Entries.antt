@@ -4,6 +4,7 @@ use mathlib.Core.Bool.{cond}
 use mathlib.Core.List.{List}
 use lib.Dec.{ltb}
 use Rattle.chip.specs.Geometry.{geometry, regionOf}
+use Rattle.format.specs.declared.Record.{Record}
 use Rattle.format.specs.Layout.{checkSumFits}
 use Rattle.region.specs.declared.Met.{Met}
 use Rattle.region.specs.declared.Stop.the-variants.{End, Bad}
@@ -12,9 +13,13 @@ use Rattle.refusals.specs.declared.Refusal.{Refusal}
 use Rattle.entries.specs.declared.Entry.{Entry}
 use Rattle.entries.specs.declared.Shown.{Shown}
 
+-- R16.4: a record of a region, and whether its checksum is right
+abbrev pub judged : List ℕ → Record → Entry
+judged region x = Entry.Stands x (checkSumFits (bytesIn region x))
+
 -- R16.4: by what a walk of the region meets there: a record, and whether its checksum is right; that the walk ends; or why the place is bad
 abbrev pub entryOf : List ℕ → Met → Entry
-entryOf region (Met.Found x) = Entry.Stands x (checkSumFits (bytesIn region x))
+entryOf region (Met.Found x) = judged region x
 entryOf region (Met.Stop (End o)) = Entry.Ends
 entryOf region (Met.Stop (Bad f o)) = Entry.Bad f
 

@@ -1,7 +1,8 @@
 // What stands at a place of a chip, one place after the other: the records as a walk meets them, for whoever looks into an image.
 ghost use mathlib.Core.Path.{_≡_};
-ghost use Prim.Native.Nat.{_≤_};
-ghost use Rattle.entries.specs.Entries.{entryIn, staying, goingOn, shownAt};
+ghost use Prim.Native.Nat.{_+_, _≤_};
+ghost use lib.ListN.{length};
+ghost use Rattle.entries.specs.Entries.{judged, entryIn, staying, goingOn, shownAt};
 use format::Fault;
 use format::Record;
 use refusals::Refusal;
@@ -34,6 +35,19 @@ pub struct Shown {
     pub next: Place,
 }
 
+// R16.4: a record of a region, and whether its checksum is right.
+fn judge(region: &[u8], rec: Record) -> Entry
+    requires { ⌜ (15 ≤ rec .len) × (rec .at + rec .len ≤ length (now region)) ⌝ }
+    ensures { λ r. ⌜ r ≡ judged (now (region .entry)) rec ⌝ }
+{
+    let a = rec.at;
+    let e = a + rec.len;
+    Entry::Stands {
+        rec,
+        sound: format::check_sum_fits(&region[a..e]),
+    }
+}
+
 // R16.4: what a walk of the region meets at a place of it.
 fn look_in(region: &[u8], at: usize) -> Entry
     ensures { λ r. ⌜ r ≡ entryIn (now (region .entry)) at ⌝ }
@@ -47,14 +61,7 @@ fn look_in(region: &[u8], at: usize) -> Entry
             Stop::End(_) => Entry::Ends,
             Stop::Bad(fault, _) => Entry::Bad(fault),
         },
-        Met::Found(rec) => {
-            let a = rec.at;
-            let e = a + rec.len;
-            Entry::Stands {
-                rec,
-                sound: format::check_sum_fits(&region[a..e]),
-            }
-        }
+        Met::Found(rec) => judge(region, rec),
     }
 }
 

@@ -1,66 +1,68 @@
+-- `entries::look_in` meets its contract: what the walk meets there, case by case.
+-- Assumes nothing.
+use mathlib.Core.Path.{_∙_, ap}
+use denote.Ref.{now}
+use Rattle.region.specs.declared.Met.{Met}
+use Rattle.entries.proofs.Looks.{past-ends, met-is, met-lies}
 use borrow.Author.Needs.{needs}
 use Rattle.entries.proofs.look_in.Statement.{statement}
 use Rattle.entries.proofs.look_in.Tie as tie
 use Rattle.entries.proofs.look_in.Reads as reads
 use Rattle.entries.proofs.look_in.Lts as lts
-use Rattle.format.proofs.check_sum_fits.Reads as check-sum-fits-reads
+use Rattle.entries.proofs.judge.Reads as judge-reads
 use Rattle.region.proofs.look.Reads as look-reads
 
--- src/lib.rt:42:9
+-- src/lib.rt:56:9
 returns : tie.Need-returns
-returns c = ?
+returns c = search (past-ends, needs)
 
--- src/lib.rt:44:9
+-- src/lib.rt:58:9
 look-requires : tie.Need-look-requires
 look-requires c κs = search needs
 
--- src/lib.rt:46:19
+-- src/lib.rt:60:19
 enum-known-met : tie.Need-enum-known-met
 enum-known-met c = search needs
 
--- src/lib.rt:47:29
+-- src/lib.rt:61:29
 enum-told : tie.Need-enum-told
 enum-told c = search needs
 
--- src/lib.rt:48:23
+-- src/lib.rt:62:23
 enum-known-stop : tie.Need-enum-known-stop
 enum-known-stop c = search needs
 
--- src/lib.rt:50:20
+-- src/lib.rt:64:20
 enum-known-met-2 : tie.Need-enum-known-met-2
 enum-known-met-2 c = search needs
 
--- src/lib.rt:52:21
-add-e : tie.Need-add-e
-add-e c = ?
+-- src/lib.rt:64:28
+judge-requires : tie.Need-judge-requires
+judge-requires c κs =
+    let d = c .before .before .before in
+    let a = d .before .before .before .args in
+    met-lies (now (a .region)) (a .at) _ _ (d .look .ensures) (c .before .met2 .given .1)
 
--- src/lib.rt:55:47
-sub-check-sum-fits : tie.Need-sub-check-sum-fits
-sub-check-sum-fits c = search needs
-
--- src/lib.rt:55:47
-part-check-sum-fits-start : tie.Need-part-check-sum-fits-start
-part-check-sum-fits-start c = search needs
-
--- src/lib.rt:55:47
-part-check-sum-fits-end : tie.Need-part-check-sum-fits-end
-part-check-sum-fits-end c = ?
-
--- src/lib.rt:55:24
-check-sum-fits-requires : tie.Need-check-sum-fits-requires
-check-sum-fits-requires c κs = ?
-
--- src/lib.rt:38:1
+-- src/lib.rt:52:1
 returns-2 : tie.Need-returns-2
-returns-2 c = ?
+returns-2 c =
+    let d = c .before .before .before in
+    let a = d .before .before .before .before .before .args in
+    met-is (now (a .region)) (a .at) _ _ (d .before .before .look .ensures) (d .met .given .1 ∙ ap Met.Stop (c .enum-told .given .1))
 
--- src/lib.rt:38:1
+-- src/lib.rt:52:1
 returns-3 : tie.Need-returns-3
-returns-3 c = ?
+returns-3 c =
+    let d = c .before .before .before .before in
+    let a = d .before .before .before .before .before .args in
+    met-is (now (a .region)) (a .at) _ _ (d .before .before .look .ensures) (d .met .given .1 ∙ ap Met.Stop (c .before .stop .given .1))
 
--- src/lib.rt:38:1
+-- src/lib.rt:52:1
 returns-4 : tie.Need-returns-4
-returns-4 c = ?
+returns-4 c =
+    let d = c .before .before in
+    let a = d .before .before .before .before .before .args in
+    c .judge .ensures ∙ met-is (now (a .region)) (a .at) _ _ (d .before .before .look .ensures) (d .met2 .given .1)
 
 pub look-in-spec : {M : Type 1} → statement M
 look-in-spec =
@@ -72,11 +74,7 @@ look-in-spec =
     enum-told
     enum-known-stop
     enum-known-met-2
-    add-e
-    sub-check-sum-fits
-    part-check-sum-fits-start
-    part-check-sum-fits-end
-    check-sum-fits-requires
+    judge-requires
     returns-2
     returns-3
     returns-4)
