@@ -27,7 +27,7 @@ use Rattle.listing.specs.Listing.{linesOf, lastLine, textOf, mostText}
 abbrev pub textFrom : List ℕ → ℕ → ℕ → ℕ → ℕ → List ℕ
 textFrom image s n r o = textOf (inventoryFrom image s n r o)
 
-text-before : (x : Item) (v : Inventory) → textOf (before (x ∷ []) v) ≡ lineOf (x .region) (x .rec) ++ textOf v
+pub text-before : (x : Item) (v : Inventory) → textOf (before (x ∷ []) v) ≡ lineOf (x .region) (x .rec) ++ textOf v
 unfolding linesOf
 text-before x v = append-assoc (lineOf (x .region) (x .rec)) (linesOf (v .items)) (lastLine (v .last))
 
@@ -56,13 +56,13 @@ pub record Left (image : List ℕ) (s n : ℕ) (first : List ℕ) (at : ℕ) (ou
 abbrev pub ahead : ℕ → ℕ → ℕ → ℕ → ℕ
 ahead s n r o = (n - r) * (s + 1) + (s - o)
 
-next-region : (r s : ℕ) → (r + 1) * s ≡ r * s + s
+pub next-region : (r s : ℕ) → (r + 1) * s ≡ r * s + s
 next-region r s = add-mul r 1 s ∙ ap (λ (m : ℕ). r * s + m) (one-mul s)
 
-passed : (r n s : ℕ) → r < n → r * s + s ≤ n * s
+pub passed : (r n s : ℕ) → r < n → r * s + s ≤ n * s
 passed r n s l = let p : (r + 1) * s ≤ n * s = mul-le-mul-right s (omega arith) in omega (arith, next-region r s)
 
-ahead-region : (s n r : ℕ) → r < n → (n - r) * (s + 1) ≡ (n - (r + 1)) * (s + 1) + (s + 1)
+pub ahead-region : (s n r : ℕ) → r < n → (n - r) * (s + 1) ≡ (n - (r + 1)) * (s + 1) + (s + 1)
 ahead-region s n r l =
     let e : n - r ≡ n - (r + 1) + 1 = omega arith in
     ap (λ (m : ℕ). m * (s + 1)) e ∙ next-region (n - (r + 1)) (s + 1)
