@@ -1,13 +1,14 @@
 -- What is still to be put, from a place of the chip on: a call for each record, until the chip is through or a place is bad.
 -- Assumes nothing.
 use Prim.Native.Nat.{ℕ, _+_, _-_, _*_, _≤_, _<_}
-use native.Mathlib.Nat.{add-mul, one-mul, mul-le-mul-right}
+use native.Mathlib.Nat.{add-mul, one-mul, zero-mul, mul-le-mul-right}
 use native.Mathlib.Omega.{arith}
 use mathlib.Core.Bool.{Bool}
 use mathlib.Core.Path.{_≡_, refl, sym, _∙_, ap, subst}
 use mathlib.Core.List.{List, [], _∷_, _++_, append-assoc}
 use lib.ListN.{length, length-append}
 use lib.Seq.{sets, length-sets}
+use borrow.Author.Tests.{le-ltb}
 use Rattle.chip.specs.Geometry.{Fits}
 use Rattle.chip.proofs.Lists.{sets-append}
 use Rattle.format.specs.declared.Record.{Record}
@@ -44,10 +45,11 @@ told image s n r o h e p q =
     let t : entryAt image s n r o ≡ e = sym (entry-shown r o (entryAt image s n r o)) ∙ ap (λ (z : Shown). z .entry) (sym p) ∙ q in
     (t, p ∙ ap (shown r o) t)
 
--- All lines are put but those from place o of region r on. The lines that are put have no more than 40 bytes for each 15 that were passed.
+-- All lines are put but those from place o of region r on. The lines that are put have no more than 40 bytes for each 15 that were passed; behind
+-- the last region no more are to come.
 pub record Left (image : List ℕ) (s n : ℕ) (first : List ℕ) (at : ℕ) (out : List ℕ) (r o end : ℕ) : Type 0 where
   pub inside : o ≤ s
-  pub few : 15 * end ≤ 15 * at + 40 * (r * s + o)
+  pub few : r < n → 15 * end ≤ 15 * at + 40 * (r * s + o)
   pub as-long : length out ≡ length first
   pub text : sets out end (textFrom image s n r o) ≡ sets first at (textOf (inventory image s n))
   pub ends : end + length (textFrom image s n r o) ≡ at + length (textOf (inventory image s n))
@@ -73,7 +75,7 @@ module _ {image : List ℕ} {s n : ℕ} (f : Fits image s n) where
       let e : textOf (inventory image s n) ≡ textFrom image s n 0 0 = ap textOf (from-first f) in
       record {
         inside = omega arith;
-        few = omega arith;
+        few = λ m. omega arith;
         as-long = refl;
         text = ap (sets out at) (sym e);
         ends = ap (λ (t : List ℕ). at + length t) (sym e);
@@ -93,7 +95,7 @@ module _ {image : List ℕ} {s n : ℕ} (f : Fits image s n) where
       room-line m a t =
           let d = f .shape in
           let y = lies in
-          (omega arith, omega arith, omega arith, omega arith, omega (arith, passed r n s (y .number)))
+          (omega arith, omega arith, omega arith, omega arith, omega (arith, l .few (y .number), passed r n s (y .number)))
 
       pub left-stands : (out′ : List ℕ) (end′ : ℕ) → Put out end (lineOf r x) out′ end′ → Left image s n first at out′ (h .next .region) (h .next .at) end′
       left-stands out′ end′ u =
@@ -106,7 +108,7 @@ module _ {image : List ℕ} {s n : ℕ} (f : Fits image s n) where
           subst (λ (z : Shown). Left image s n first at out′ (z .next .region) (z .next .at) end′) (sym goes)
           (record {
             inside = y .inside;
-            few = omega (arith, u .1, l .few);
+            few = λ m. omega (arith, u .1, l .few m);
             as-long = ap length (u .0) ∙ length-sets out end (lineOf r x) ∙ l .as-long;
             text = w ∙ l .text;
             ends = omega (arith, u .1, l .ends, ap length e, length-append (lineOf r x) rest);
@@ -131,7 +133,7 @@ module _ {image : List ℕ} {s n : ℕ} (f : Fits image s n) where
           subst (λ (z : Shown). Left image s n first at out (z .next .region) (z .next .at) end) (sym on)
           (record {
             inside = omega arith;
-            few = omega (arith, l .few, l .inside, next-region r s);
+            few = λ m. omega (arith, l .few (over .0), l .inside, next-region r s);
             as-long = l .as-long;
             text = ap (sets out end) e ∙ l .text;
             ends = ap (λ (t : List ℕ). end + length t) e ∙ l .ends;
@@ -151,13 +153,25 @@ module _ {image : List ℕ} {s n : ℕ} (f : Fits image s n) where
       room-bad m a t =
           let d = f .shape in
           let y : r < n = ends-here .0 in
-          (omega arith, omega (arith, l .inside), omega (arith, l .few, l .inside, l .as-long, passed r n s y))
+          (omega arith, omega (arith, l .inside), omega (arith, l .few y, l .inside, l .as-long, passed r n s y))
 
-      pub left-bad : (out′ : List ℕ) (end′ : ℕ) → Put out end (badLine r o) out′ end′ → Put first at (textOf (inventory image s n)) out′ end′
+      pub left-bad : (out′ : List ℕ) (end′ : ℕ) → Put out end (badLine r o) out′ end′ → Left image s n first at out′ n 0 end′
       unfolding linesOf
       left-bad out′ end′ u =
           let e : badLine r o ≡ textFrom image s n r o = ap textOf (sym (ends-here .1)) in
-          (u .0 ∙ ap (sets out end) e ∙ l .text, u .1 ∙ ap (λ (t : List ℕ). end + length t) e ∙ l .ends)
+          let z : textFrom image s n n 0 ≡ [] = rw (le-ltb n n (omega arith)) in
+          record {
+            inside = omega arith;
+            few = λ m. absurd (omega arith);
+            as-long = ap length (u .0) ∙ length-sets out end (badLine r o) ∙ l .as-long;
+            text = ap (sets out′ end′) z ∙ u .0 ∙ ap (sets out end) e ∙ l .text;
+            ends = omega (arith, ap length z, ap length e, u .1, l .ends);
+          }
+
+      pub less-bad : ahead s n n 0 < ahead s n r o
+      less-bad =
+          let z : (n - n) * (s + 1) ≡ 0 = let d : n - n ≡ 0 = omega arith in rw d (zero-mul (s + 1)) in
+          omega (arith, ahead-region s n r (ends-here .0))
 
     -- The chip is through.
     pub left-over : (h : Shown) → h ≡ shownAt image s n r o → h .entry ≡ Entry.Over → Put first at (textOf (inventory image s n)) out end

@@ -34,8 +34,11 @@ fn list_from(image: &[u8], s: usize, n: usize, out: &mut [u8], at: usize) -> usi
                 region = shown.next.region;
                 place = shown.next.at;
             }
+            // A bad place ends the list: it goes on behind the last region.
             Entry::Bad(_) => {
-                return lines::put_bad(out, end, region, place);
+                end = lines::put_bad(out, end, region, place);
+                region = n;
+                place = 0;
             }
             Entry::Over => {
                 return end;

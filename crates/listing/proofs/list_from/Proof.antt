@@ -1,9 +1,8 @@
 -- `listing::list_from` meets its contract: at each call what is still to be put, behind what is put, makes up the whole. Each call leaves less
 -- to be looked at.
 -- Assumes nothing.
-use native.Mathlib.Omega.{arith}
 use borrow.Author.Needs.{needs}
-use Rattle.listing.proofs.Listed.{Left, ahead, left-first, room-line, left-stands, less-stands, left-ends, less-ends, room-bad, left-bad, left-over, left-refused}
+use Rattle.listing.proofs.Listed.{Left, ahead, left-first, room-line, left-stands, less-stands, left-ends, less-ends, room-bad, left-bad, less-bad, left-over, left-refused}
 use Rattle.listing.proofs.list_from.Statement.{statement}
 use Rattle.listing.proofs.list_from.Tie as tie
 
@@ -50,29 +49,29 @@ put-bad-requires c κs =
     let z = c .before .before .before .before .before .before .before .pre in
     room-bad (z .0) (c .before .before .before .before .loop .inv) _ _ (c .before .before .before .record-at .ensures) (c .before .enum-told2 .given .1) (z .1) (z .2) (z .3)
 
-same-length : tie.Need-same-length Inv-loop μ-loop
-same-length c = omega (arith, c .before .before .before .before .before .before .before .loop .inv .as-long)
+loop-less-3 : tie.Need-loop-less-3 Inv-loop μ-loop
+loop-less-3 c = less-bad (c .before .before .before .before .before .before .before .before .before .before .pre .0) (c .before .before .before .before .before .before .before .loop .inv) _ _ (c .before .before .before .before .before .before .record-at .ensures) (c .before .before .before .before .enum-told2 .given .1)
 
-returns : tie.Need-returns Inv-loop μ-loop
-returns c = left-bad (c .before .before .before .before .before .before .before .before .before .before .pre .0) (c .before .before .before .before .before .before .before .loop .inv) _ _ (c .before .before .before .before .before .before .record-at .ensures) (c .before .before .before .before .enum-told2 .given .1) _ _ (c .before .before .put-bad .ensures)
+loop-again-3 : tie.Need-loop-again-3 Inv-loop μ-loop
+loop-again-3 c = left-bad (c .before .before .before .before .before .before .before .before .before .before .pre .0) (c .before .before .before .before .before .before .before .loop .inv) _ _ (c .before .before .before .before .before .before .record-at .ensures) (c .before .before .before .before .enum-told2 .given .1) _ _ (c .before .before .put-bad .ensures)
 
 enum-told-3 : tie.Need-enum-told-3 Inv-loop μ-loop
 enum-told-3 c = search needs
+
+same-length : tie.Need-same-length Inv-loop μ-loop
+same-length c = c .before .before .before .loop .inv .as-long
+
+returns : tie.Need-returns Inv-loop μ-loop
+returns c = left-over (c .before .before .before .before .before .before .pre .0) (c .before .before .before .loop .inv) _ (c .before .before .record-at .ensures) (c .enum-told3 .given .1)
+
+enum-told-4 : tie.Need-enum-told-4 Inv-loop μ-loop
+enum-told-4 c = search needs
 
 same-length-2 : tie.Need-same-length-2 Inv-loop μ-loop
 same-length-2 c = c .before .before .before .loop .inv .as-long
 
 returns-2 : tie.Need-returns-2 Inv-loop μ-loop
-returns-2 c = left-over (c .before .before .before .before .before .before .pre .0) (c .before .before .before .loop .inv) _ (c .before .before .record-at .ensures) (c .enum-told3 .given .1)
-
-enum-told-4 : tie.Need-enum-told-4 Inv-loop μ-loop
-enum-told-4 c = search needs
-
-same-length-3 : tie.Need-same-length-3 Inv-loop μ-loop
-same-length-3 c = c .before .before .before .loop .inv .as-long
-
-returns-3 : tie.Need-returns-3 Inv-loop μ-loop
-returns-3 c = absurd (left-refused (c .before .before .before .before .before .before .pre .0) (c .before .before .before .loop .inv) _ _ (c .before .before .record-at .ensures) (c .enum-told4 .given .1))
+returns-2 c = absurd (left-refused (c .before .before .before .before .before .before .pre .0) (c .before .before .before .loop .inv) _ _ (c .before .before .record-at .ensures) (c .enum-told4 .given .1))
 
 pub list-from-spec : {M : Type 1} → statement M
 list-from-spec =
@@ -91,11 +90,11 @@ list-from-spec =
     loop-again-2
     enum-told-2
     put-bad-requires
+    loop-less-3
+    loop-again-3
+    enum-told-3
     same-length
     returns
-    enum-told-3
-    same-length-2
-    returns-2
     enum-told-4
-    same-length-3
-    returns-3)
+    same-length-2
+    returns-2)
