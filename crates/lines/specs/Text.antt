@@ -19,7 +19,7 @@ lineFeed = 10
 -- R16.8: a number in decimal digits, the highest first and without leading zeros, in so many digits at most
 unfoldable pub decimalIn : ℕ → ℕ → List ℕ
 decimalIn zero n = []
-decimalIn (suc k) n = cond (ltb n 10) (48 + n ∷ []) (decimalIn k (n / 10) ++ (48 + n % 10 ∷ []))
+decimalIn (suc k) n = cond (ltb n 10) ((48 + n) ∷ []) (decimalIn k (n / 10) ++ ((48 + n % 10) ∷ []))
 
 -- R16.8: a number in decimal digits: it has no more of them than it counts, and one where it is 0.
 abbrev pub decimal : ℕ → List ℕ

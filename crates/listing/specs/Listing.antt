@@ -1,7 +1,10 @@
 -- What the program writes, for any bytes that it reads.
 use Prim.Native.Nat.{ℕ}
+use mathlib.Core.Bool.{cond}
 use mathlib.Core.List.{List, [], _∷_, _++_}
+use lib.Dec.{leb}
 use lib.ListN.{length, drop}
+use lib.Seq.{sets}
 use Rattle.entries.specs.Inventory.{Item, Last, through, bad, refused, Inventory, inventory}
 use Rattle.intake.specs.declared.Intake.{Intake}
 use Rattle.intake.specs.Intake.{intakeOf}
@@ -34,3 +37,11 @@ listing input = listingBy input (intakeOf input)
 -- R16.10: the longest text of any input has fewer bytes than this.
 abbrev pub mostText : ℕ
 mostText = 180224
+
+-- R16.10: what a buffer holds then: the text from its first byte on. One that is too short for some input's text is left as it was, for every input.
+unfoldable pub filled : List ℕ → List ℕ → List ℕ
+filled input out = cond (leb mostText (length out)) (sets out 0 (listing input)) out
+
+-- R16.10: how many of its bytes are text: none of a buffer that is too short
+unfoldable pub textLength : List ℕ → List ℕ → ℕ
+textLength input out = cond (leb mostText (length out)) (length (listing input)) 0

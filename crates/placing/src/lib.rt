@@ -9,7 +9,7 @@ use format::Record;
 use format::Removal;
 
 // Bytes laid into a region from a place on.
-fn lay(region: &mut [u8], at: usize, new: &[u8])
+pub fn lay(region: &mut [u8], at: usize, new: &[u8])
     requires { ⌜ at + length (now new) ≤ length (now region) ⌝ }
     ensures { λ _. ⌜ now (region .exit) ≡ sets (now (region .entry)) at (now (new .entry)) ⌝ }
 {

@@ -1,0 +1,3 @@
+pub mod Listed
+pub mod Whole
+pub mod Theorems
