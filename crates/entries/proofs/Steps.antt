@@ -1,29 +1,25 @@
 -- A chip's records from a place on, one call at a time: what each kind of entry makes of them.
 -- Assumes nothing.
-use Prim.Native.Nat.{ℕ, zero, suc, _+_, _-_, _*_, _^_, _≤_, _<_}
-use native.Mathlib.Nat.{add-zero}
-use native.Mathlib.Numerals.{add-one}
+use Prim.Native.Nat.{ℕ, suc, _+_, _-_, _≤_, _<_}
 use native.Mathlib.Omega.{arith}
 use mathlib.Core.Path.{_≡_, refl, sym, _∙_, ap}
 use mathlib.Core.Bool.{Bool, true, false, cond}
 use mathlib.Core.List.{List, [], _∷_, _++_}
 use mathlib.Core.Logic.{_⊎_, inl, inr, ⊎-elim}
 use lib.Dec.{ltb}
-use lib.ListN.{length}
 use borrow.Author.Tests.{ltb-true, ltb-false, lt-ltb, le-ltb}
-use Rattle.chip.specs.Geometry.{regionOf, numbers, Fits}
-use Rattle.chip.proofs.Image.{fits-geometry, region-length, region-inside}
+use Rattle.chip.specs.Geometry.{geometry, regionOf, numbers, Fits}
+use Rattle.chip.proofs.Image.{geometry-fits, fits-geometry, region-length}
 use Rattle.format.specs.declared.Record.{Record}
 use Rattle.format.specs.declared.Fault.{Fault}
 use Rattle.region.specs.declared.Met.{Met}
-use Rattle.region.specs.declared.Stop.{Stop}
 use Rattle.region.specs.declared.Stop.the-variants.{End, Bad}
-use Rattle.region.specs.Walk.{View, stopped, passed, metAt, walkFrom, records, ending}
+use Rattle.region.specs.Walk.{View, stopped, metAt, walkFrom}
 use Rattle.region.proofs.Steps.{walk-stop, walk-found, stop-place}
 use Rattle.refusals.specs.declared.Refusal.{Refusal}
 use Rattle.entries.specs.declared.Entry.{Entry}
-use Rattle.entries.specs.Entries.{entryOf, entryIn, entryAt}
-use Rattle.entries.specs.Inventory.{Item, through, bad, Inventory, itemsIn, behind, before, inventoryOf, inventory}
+use Rattle.entries.specs.Entries.{entryOf, entryIn, entryAt, shown}
+use Rattle.entries.specs.Inventory.{through, bad, Inventory, itemsIn, behind, before, inventoryOf, inventory}
 use Rattle.entries.proofs.Looks.{in-region, Stood, stood}
 
 -- the rest of a region's view, and the regions behind it
@@ -76,6 +72,23 @@ refuses-not region o w h = go (metAt region o) h
     go (Met.Found y) q = let z : _≡_ {A = ℕ} 0 1 = cc in omega arith
     go (Met.Stop (End p)) q = let z : _≡_ {A = ℕ} 0 1 = cc in omega arith
     go (Met.Stop (Bad g p)) q = let z : _≡_ {A = ℕ} 0 1 = cc in omega arith
+
+-- where a record stands the image is a chip's
+pub stands-chip : (image : List ℕ) (s n r o : ℕ) (x : Record) (sound : Bool) → entryAt image s n r o ≡ Entry.Stands x sound → Fits image s n
+unfolding entryAt
+stands-chip image s n r o x sound h = go (geometry image s n) refl h
+  where
+    go : (b : Bool) → geometry image s n ≡ b → cond b (cond (ltb r n) (entryIn (regionOf s image r) o) Entry.Over) (Entry.Refused Refusal.BadGeometry) ≡ Entry.Stands x sound → Fits image s n
+    go true g q = geometry-fits g
+    go false g q = absurd (let z : _≡_ {A = ℕ} 0 1 = cc in omega arith)
+
+-- what is shown of a place is what stands there
+pub shown-entry : (r o : ℕ) (e : Entry) → shown r o e .entry ≡ e
+shown-entry r o (Entry.Stands x sound) = refl
+shown-entry r o Entry.Ends = refl
+shown-entry r o (Entry.Bad f) = refl
+shown-entry r o Entry.Over = refl
+shown-entry r o (Entry.Refused w) = refl
 
 module _ {image : List ℕ} {s n : ℕ} (f : Fits image s n) where
   -- what stands at a place of the chip stands in a region of it, or there is no such region

@@ -9,7 +9,8 @@ use refusals::Refusal;
 use region::Met;
 use region::Stop;
 
-// R16.4: a place of a chip: a region, and a place in it.
+// R16.4: a place of a chip: a region, and a place in it. C and Rust see it as it is.
+#[repr(C)]
 pub struct Place {
     pub region: usize,
     pub at: usize,

@@ -1,4 +1,4 @@
--- What each of the fourteen exports' contracts allows: its answer, and what it leaves in the bytes that it was lent to alter. The contracts cite these
+-- What each of the sixteen exports' contracts allows: its answer, and what it leaves in the bytes that it was lent to alter. The contracts cite these
 -- names, and exports says of each that it allows one result.
 use Prim.Native.Nat.{ℕ}
 use mathlib.Core.Path.{_≡_}
@@ -8,6 +8,11 @@ use Rattle.format.specs.declared.Removal.{Removal}
 use Rattle.store.specs.Read.{getOf}
 use Rattle.store.specs.Write.{appendOf, removeOf, initialiseOf}
 use Rattle.store.specs.Collect.{collectOf}
+use Rattle.lending.specs.Lending.{locatedOf}
+use Rattle.entries.specs.Entries.{shownAt}
+use Rattle.sights.specs.declared.CFound.{CFound}
+use Rattle.sights.specs.declared.CEntry.{CEntry}
+use Rattle.sights.specs.Sights.{foundNumbers, shownNumbers}
 use Rattle.running.specs.Starts.{getStarted, appendStarted, removeStarted, collectStarted, initialiseStarted}
 use Rattle.replies.specs.declared.CAnswer.{CAnswer}
 use Rattle.replies.specs.Answers.{answerNumbers}
@@ -79,3 +84,13 @@ StepAllows op reply region value buffer r region′ buffer′ =
 -- R5.10: the checksum alone, of any bytes.
 abbrev pub ChecksumAllows : List ℕ → ℕ → Type 0
 ChecksumAllows bytes r = r ≡ checksum bytes
+
+-- Looking into a chip: nothing that is lent is altered.
+
+-- R16.1, R16.2, R16.11: where a key's value lies, in numbers.
+abbrev pub FindValueAllows : List ℕ → ℕ → ℕ → ℕ → CFound → Type 0
+FindValueAllows image s n key r = r ≡ foundNumbers (locatedOf image s n key)
+
+-- R16.4, R16.5, R16.11: what stands at a place of a region, and where to go on, in numbers.
+abbrev pub RecordAtAllows : List ℕ → ℕ → ℕ → ℕ → ℕ → CEntry → Type 0
+RecordAtAllows image s n region place r = r ≡ shownNumbers s region (shownAt image s n region place)

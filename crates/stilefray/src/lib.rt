@@ -1,6 +1,7 @@
 // The store as C and Rust link it: every call of the one-call and of the stepped form under a name that begins with `stilefray_`, with
 // numbers, lent bytes and plain structs. None asks anything of its caller: any numbers that C can pass are answered.
 mod image;
+mod looking;
 mod stepped;
 
 pub use image::stilefray_append_key;
@@ -9,6 +10,8 @@ pub use image::stilefray_get_key;
 pub use image::stilefray_initialise;
 pub use image::stilefray_invalidate_key;
 pub use image::stilefray_zeroise_key;
+pub use looking::stilefray_find_value;
+pub use looking::stilefray_record_at;
 pub use stepped::stilefray_start_append;
 pub use stepped::stilefray_start_collect;
 pub use stepped::stilefray_start_get;
