@@ -64,6 +64,14 @@ fn line(image: &[u8], s: usize, at: Place, entry: Entry) -> Option<String> {
     })
 }
 
+/// Of a bad place: UnsupportedVersion by its first byte, or else CorruptData.
+fn refusal(image: &[u8], s: usize, at: Place) -> u32 {
+    match image[at.region * s + at.place] {
+        1 => 8,
+        _ => 7,
+    }
+}
+
 /// The text of an image, or what the call said that cannot be.
 pub fn text(image: &[u8], s: usize, n: usize) -> Result<String, String> {
     let mut text = String::from(HEADER);
@@ -76,7 +84,7 @@ pub fn text(image: &[u8], s: usize, n: usize) -> Result<String, String> {
         match entry.kind {
             RECORD => text += &line(image, s, at, entry).ok_or_else(wrong)?,
             ENDS if entry.next == next_region => {}
-            BAD if entry.next == next_region && matches!(entry.refusal, 7 | 8) => {
+            BAD if entry.next == next_region && entry.refusal == refusal(image, s, at) => {
                 return Ok(format!("{text}bad {} {}\n", at.region, at.place));
             }
             OVER if entry.next == at && at == (Place { region: n, place: 0 }) => return Ok(text),
