@@ -81,6 +81,9 @@ fn over() -> Vec<Vec<u8>> {
 /// S or N outside its limits, with all the bytes that they say.
 fn outside() -> Vec<Vec<u8>> {
     let pairs = [
+        (0, 0),
+        (0, 1),
+        (64, 0),
         (63, 1),
         (63, 64),
         (1, 1),
@@ -190,6 +193,10 @@ fn too_long() -> Vec<Vec<u8>> {
         add("6".repeat(length), "1".to_string());
         add("64".to_string(), "1".repeat(length));
         add(format!("1{}64", "0".repeat(length)), "1".to_string());
+    }
+    // Products that are 0 in a word of 64 bits, and so many bytes.
+    for line in ["4294967296 4294967296\n", "9223372036854775808 2\n", "64 288230376151711744\n"] {
+        list.push(line.as_bytes().to_vec());
     }
     list
 }

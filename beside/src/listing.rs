@@ -171,22 +171,24 @@ fn by_chance(counts: &mut Counts, seed: u64, all: usize) -> Result<Vec<String>, 
 }
 
 /// The archive's call takes chips that the program does not, and refuses by S, N and
-/// the image's length alone.
+/// the image's length alone: a byte less and a byte more are no chip.
 fn calls_alone(counts: &mut Counts) -> Result<(), String> {
-    for (s, n) in
-        [(4_096, 17), (1_025, 64), (4_096, 64), (63, 1), (64, 65), (4_097, 1), (0, 0), (64, 0)]
-    {
-        let image = list_inputs::full(s.max(1), n)[..s * n].to_vec();
-        let text = if list_text::limits(s, n) {
-            list_text::of_image(&image, s)
-        } else {
-            REFUSED.to_string()
+    let taken = [(64, 1), (4_096, 17), (1_025, 64), (4_096, 64)];
+    let outside = [(63, 1), (64, 65), (4_097, 1), (0, 1), (64, 0)];
+    for (s, n) in taken.into_iter().chain(outside) {
+        let mut image = list_inputs::full(s.max(1), n.max(1));
+        image.push(255);
+        let text = match list_text::limits(s, n) {
+            true => list_text::of_image(&image[..s * n], s),
+            false => REFUSED.to_string(),
         };
-        let short = &image[..image.len().saturating_sub(1)];
-        if list_calls::text(&image, s, n)? != text || list_calls::text(short, s, n)? != REFUSED {
-            return Err(format!("record_at on a full chip, S {s}, N {n}"));
+        for length in [s * n, s * n + 1, (s * n).saturating_sub(1)] {
+            let right = if length == s * n { &text } else { REFUSED };
+            if list_calls::text(&image[..length], s, n)? != right {
+                return Err(format!("record_at on {length} bytes, S {s}, N {n}"));
+            }
+            counts.calls += 1;
         }
-        counts.calls += 2;
     }
     Ok(())
 }
