@@ -32,9 +32,9 @@ extern "C" {
 #endif
 
 /* The version of this header and of the archive that it goes with. */
-#define STILEFRAY_VERSION "0.2.0"
+#define STILEFRAY_VERSION "0.3.0"
 #define STILEFRAY_VERSION_MAJOR 0
-#define STILEFRAY_VERSION_MINOR 2
+#define STILEFRAY_VERSION_MINOR 3
 #define STILEFRAY_VERSION_PATCH 0
 
 /* The edition of the record format: a record's byte 0 (R3.1). */
@@ -107,12 +107,43 @@ extern "C" {
 #define STILEFRAY_ERASE 3
 #define STILEFRAY_ANSWER 4
 
+/* An entry's kind: what stands at a place of a chip (R16.4). */
+#define STILEFRAY_ENTRY_REFUSED 0 /* the image is no chip of this s and n */
+#define STILEFRAY_ENTRY_RECORD 1  /* a record, live or dead */
+#define STILEFRAY_ENTRY_END 2     /* the region ends here: its walk does */
+#define STILEFRAY_ENTRY_BAD 3     /* the place is bad */
+#define STILEFRAY_ENTRY_NONE 4    /* there is no such region: the chip is through */
+
 /* An answer. */
 typedef struct {
     uint32_t kind;    /* STILEFRAY_REFUSED, _COMPLETE, _WRITTEN or _FREED */
     uint32_t refusal; /* refused: 1 to 12; else 0 */
     size_t value;     /* complete: the value's length; freed: the bytes freed; refusal 9: the value's full length; else 0 */
 } stilefray_answer;
+
+/* Where a key's value lies (R16.1, R16.2). */
+typedef struct {
+    stilefray_answer answer; /* _COMPLETE with the value's length, or _REFUSED */
+    size_t place;            /* complete: the image place of the value's first byte; else 0 */
+} stilefray_found;
+
+/* A place of a chip. */
+typedef struct {
+    size_t region;
+    size_t place; /* counted from the region's first byte */
+} stilefray_place;
+
+/* What stands at a place of a chip, and where to go on (R16.4, R16.5). Numbers that a kind does not use are 0 (R16.11). */
+typedef struct {
+    uint32_t kind;        /* STILEFRAY_ENTRY_.. */
+    uint32_t refusal;     /* refused: 1; bad: 7 or 8; else 0 */
+    uint32_t live;        /* record: 1 live, 0 dead */
+    uint32_t sound;       /* record: 1 if its checksum is that of its bytes. Of a dead one that says nothing (R3.6) */
+    uint64_t key;         /* record: its key */
+    size_t place;         /* record: the place in the image of the value's first byte */
+    size_t length;        /* record: the value's length */
+    stilefray_place next; /* record: behind it; end, bad: the next region's first place; else the place that was asked for */
+} stilefray_entry;
 
 /*
  * A running operation. It is plain data: it holds no pointer, may be copied, and may be kept and taken up again later, with the region
@@ -216,6 +247,35 @@ stilefray_answer stilefray_initialise(uint8_t *image, size_t image_len, size_t s
 
 /* The checksum that a record carries over its header and value, here of any bytes: CRC-32/CKSUM. Of "123456789" it is 0x765e7680. */
 uint32_t stilefray_checksum(const uint8_t *bytes, size_t len);
+
+/* ------------------------------------------------------------- a look into the image: it is only read, and nothing is copied */
+
+/*
+ * A key's value where it lies (R16.1, R16.2): get without a buffer. The bytes are image + place up to image + place + answer.value.
+ *
+ * COMPLETE, value its length: the checksum is right. REFUSED by 1, 2, 4, 7, 8 or 10, as get, and never by BUFFER_TOO_SMALL.
+ */
+stilefray_found stilefray_find_value(const uint8_t *image, size_t image_len, size_t s, size_t n, uint64_t key);
+
+/*
+ * What stands at a place of a region: what a walk meets there (R16.4). Any numbers are answered. A place past the region's end is an end,
+ * and at one where no record begins, the bytes there are read as if one did.
+ *
+ * It looks at that place alone. Begun at region 0, place 0, and taken on at `next` as long as the kind is RECORD or END, it gives the
+ * chip's records in region and place order up to the first bad place, in one walk of the image; on any image that ends (R16.5, R16.6):
+ *
+ *     stilefray_place at = {0, 0};
+ *     stilefray_entry e;
+ *     for (;;) {
+ *         e = stilefray_record_at(image, image_len, s, n, at.region, at.place);
+ *         if (e.kind != STILEFRAY_ENTRY_RECORD && e.kind != STILEFRAY_ENTRY_END) break;
+ *         if (e.kind == STILEFRAY_ENTRY_RECORD) look(at, e.live, e.key, image + e.place, e.length);
+ *         at = e.next;
+ *     }
+ *
+ * Then e.kind says why it ended: NONE after the last region, BAD at the place `at`, or REFUSED.
+ */
+stilefray_entry stilefray_record_at(const uint8_t *image, size_t image_len, size_t s, size_t n, size_t region, size_t place);
 
 /* ------------------------------------------------------------- the stepped form: one flash service at a time */
 

@@ -1,6 +1,6 @@
 /*
- * The library from C: versions, layouts, the afternoons (R15), refusals by number, a run of each operation one service at a time, services
- * that end after their operation, and null pointers with length 0.
+ * The library from C: versions, layouts, the afternoons (R15), refusals by number, a look into images (R16), a run of each operation one
+ * service at a time, services that end after their operation, and null pointers with length 0.
  */
 #include "stilefray.h"
 #include <stdio.h>
@@ -27,6 +27,9 @@ struct after_a_char_operation { char first; stilefray_operation it; };
 struct after_a_char_start { char first; stilefray_start it; };
 struct after_a_char_request { char first; stilefray_request it; };
 struct after_a_char_stepped { char first; stilefray_stepped it; };
+struct after_a_char_found { char first; stilefray_found it; };
+struct after_a_char_place { char first; stilefray_place it; };
+struct after_a_char_entry { char first; stilefray_entry it; };
 
 FILLS(answer, 16);
 LIES(answer, kind, 0, 4);
@@ -66,6 +69,21 @@ LIES(request, answer, 40, 16);
 FILLS(stepped, 176);
 LIES(stepped, op, 0, 120);
 LIES(stepped, request, 120, 56);
+FILLS(found, 24);
+LIES(found, answer, 0, 16);
+LIES(found, place, 16, 8);
+FILLS(place, 16);
+LIES(place, region, 0, 8);
+LIES(place, place, 8, 8);
+FILLS(entry, 56);
+LIES(entry, kind, 0, 4);
+LIES(entry, refusal, 4, 4);
+LIES(entry, live, 8, 4);
+LIES(entry, sound, 12, 4);
+LIES(entry, key, 16, 8);
+LIES(entry, place, 24, 8);
+LIES(entry, length, 32, 8);
+LIES(entry, next, 40, 16);
 
 enum { S = 64, N = 4, CHIP = 256 };
 
@@ -168,6 +186,108 @@ static void refusals_1_to_3(void) {
     CHECK(stilefray_start_invalidate(S, N, 0).refusal == STILEFRAY_BAD_KEY);
     CHECK(stilefray_start_zeroise(S, N, 0).refusal == STILEFRAY_BAD_KEY);
     CHECK(stilefray_start_initialise(S, N, 0).refusal == STILEFRAY_BAD_KEY);
+}
+
+static stilefray_found find(uint64_t key) { return stilefray_find_value(chip, CHIP, S, N, key); }
+static int found(stilefray_found value, size_t place, size_t len) {
+    return is(value.answer, STILEFRAY_COMPLETE, 0, len) && value.place == place && all(chip + place, len, 7);
+}
+static int nowhere(stilefray_found value, uint32_t refusal) { return refused(value.answer, refusal) && value.place == 0; }
+
+/* A key's value where it lies, and get's refusals. Key 1 fills region 1, and 5 and 9 spill to region 2. */
+static void found_values(void) {
+    uint8_t whole[CHIP];
+    erase_chip();
+    CHECK(nowhere(find(1), STILEFRAY_KEY_NOT_FOUND));
+    CHECK(nowhere(find(0), STILEFRAY_BAD_KEY) && nowhere(find(UINT64_MAX), STILEFRAY_BAD_KEY));
+    CHECK(written(append(1, 49)) && written(append(5, 5)) && written(append(9, 0)));
+    memcpy(whole, chip, CHIP);
+    CHECK(found(find(1), 75, 49) && found(find(5), 139, 5) && found(find(9), 159, 0));
+    CHECK(nowhere(find(13), STILEFRAY_KEY_NOT_FOUND));
+    CHECK(nowhere(stilefray_find_value(chip, CHIP, 63, N, 0), STILEFRAY_BAD_GEOMETRY));
+    CHECK(nowhere(stilefray_find_value(chip, CHIP - 1, S, N, 1), STILEFRAY_BAD_GEOMETRY));
+    CHECK(nowhere(stilefray_find_value(chip, CHIP, S, SIZE_MAX, 1), STILEFRAY_BAD_GEOMETRY));
+    CHECK(memcmp(whole, chip, CHIP) == 0);
+    chip[123] ^= 1; /* a byte of key 1's value: others are found past it */
+    CHECK(nowhere(find(1), STILEFRAY_INVALID_CHECK_SUM) && found(find(5), 139, 5));
+    CHECK(written(stilefray_invalidate_key(chip, CHIP, S, N, 5)));
+    CHECK(nowhere(find(5), STILEFRAY_KEY_NOT_FOUND) && found(find(9), 159, 0));
+    chip[128] = 2;
+    CHECK(nowhere(find(9), STILEFRAY_UNSUPPORTED_VERSION) && nowhere(find(1), STILEFRAY_INVALID_CHECK_SUM));
+    chip[128] = 1, chip[130] = 14;
+    CHECK(nowhere(find(9), STILEFRAY_CORRUPT_DATA) && nowhere(find(2), STILEFRAY_CORRUPT_DATA));
+}
+
+static stilefray_entry entry(size_t r, size_t o) { return stilefray_record_at(chip, CHIP, S, N, r, o); }
+/* No record: what else, and where to go on. */
+static int other(stilefray_entry e, uint32_t kind, uint32_t refusal, size_t r, size_t o) {
+    return e.kind == kind && e.refusal == refusal && e.live == 0 && e.sound == 0 && e.key == 0 && e.place == 0 && e.length == 0 &&
+           e.next.region == r && e.next.place == o;
+}
+/* A record, whose value lies there; four bytes behind it the next begins. */
+static int stands(stilefray_entry e, uint32_t live, uint32_t sound, uint64_t key, size_t place, size_t len) {
+    return e.kind == STILEFRAY_ENTRY_RECORD && e.refusal == 0 && e.live == live && e.sound == sound && e.key == key && e.place == place &&
+           e.length == len && e.next.region == place / S && e.next.place == place % S + len + 4;
+}
+
+/* Region 1: live, dead, live with a wrong checksum. Region 2: two records up to its end. Region 3: a dead one, zeroised. */
+static void entries(void) {
+    erase_chip();
+    CHECK(written(append(1, 3)) && written(append(5, 0)) && written(append(9, 1)) && written(append(2, 34)) && written(append(6, 0)));
+    CHECK(written(append(3, 2)) && written(stilefray_zeroise_key(chip, CHIP, S, N, 3)));
+    CHECK(written(stilefray_invalidate_key(chip, CHIP, S, N, 5)));
+    chip[108] ^= 1; /* the value of key 9 */
+    CHECK(stands(entry(1, 0), 1, 1, 1, 75, 3) && stands(entry(1, 18), 0, 0, 5, 93, 0) && stands(entry(1, 33), 1, 0, 9, 108, 1));
+    CHECK(stands(entry(2, 0), 1, 1, 2, 139, 34) && stands(entry(2, 49), 1, 1, 6, 188, 0) && stands(entry(3, 0), 0, 0, 3, 203, 2));
+    CHECK(other(entry(0, 0), STILEFRAY_ENTRY_END, 0, 1, 0) && other(entry(1, 49), STILEFRAY_ENTRY_END, 0, 2, 0));
+    CHECK(other(entry(1, 50), STILEFRAY_ENTRY_END, 0, 2, 0) && other(entry(2, 64), STILEFRAY_ENTRY_END, 0, 3, 0));
+    CHECK(other(entry(3, 65), STILEFRAY_ENTRY_END, 0, 4, 0) && other(entry(0, SIZE_MAX), STILEFRAY_ENTRY_END, 0, 1, 0));
+    CHECK(other(entry(4, 0), STILEFRAY_ENTRY_NONE, 0, 4, 0) && other(entry(SIZE_MAX, 9), STILEFRAY_ENTRY_NONE, 0, SIZE_MAX, 9));
+    CHECK(other(entry(1, 1), STILEFRAY_ENTRY_BAD, STILEFRAY_UNSUPPORTED_VERSION, 2, 0)); /* no record begins there */
+    chip[64] = 2;
+    CHECK(other(entry(1, 0), STILEFRAY_ENTRY_BAD, STILEFRAY_UNSUPPORTED_VERSION, 2, 0));
+    chip[64] = 1, chip[66] = 14;
+    CHECK(other(entry(1, 0), STILEFRAY_ENTRY_BAD, STILEFRAY_CORRUPT_DATA, 2, 0));
+    chip[66] = 65; /* past the region's end */
+    CHECK(other(entry(1, 0), STILEFRAY_ENTRY_BAD, STILEFRAY_CORRUPT_DATA, 2, 0));
+    CHECK(other(stilefray_record_at(chip, CHIP, 63, N, 1, 2), STILEFRAY_ENTRY_REFUSED, STILEFRAY_BAD_GEOMETRY, 1, 2));
+    CHECK(other(stilefray_record_at(chip, CHIP - 1, S, N, 9, 0), STILEFRAY_ENTRY_REFUSED, STILEFRAY_BAD_GEOMETRY, 9, 0));
+    CHECK(other(stilefray_record_at(chip, CHIP, S, 5, 0, 0), STILEFRAY_ENTRY_REFUSED, STILEFRAY_BAD_GEOMETRY, 0, 0));
+}
+
+/* A pass as the header has it: what it met, as "1.18-5 " for region 1, place 18, dead, key 5, or + for live; and how it ended and where. */
+static const char *pass(void) {
+    static char met[2000];
+    stilefray_place at = {0, 0};
+    stilefray_entry e;
+    met[0] = 0;
+    for (;;) {
+        e = entry(at.region, at.place);
+        if (e.kind != STILEFRAY_ENTRY_RECORD && e.kind != STILEFRAY_ENTRY_END) break;
+        if (e.kind == STILEFRAY_ENTRY_RECORD)
+            sprintf(met + strlen(met), "%zu.%zu%c%d ", at.region, at.place, e.live ? '+' : '-', (int)e.key);
+        at = e.next;
+    }
+    sprintf(met + strlen(met), "%s %zu.%zu", e.kind == STILEFRAY_ENTRY_BAD ? "bad" : "through", at.region, at.place);
+    return met;
+}
+
+static void passes(void) {
+    size_t i;
+    erase_chip();
+    CHECK(strcmp(pass(), "through 4.0") == 0);
+    CHECK(written(append(1, 3)) && written(append(5, 0)) && written(append(9, 16)) && written(append(13, 0)) && written(append(4, 0)));
+    CHECK(written(stilefray_invalidate_key(chip, CHIP, S, N, 5)));
+    CHECK(strcmp(pass(), "0.0+4 1.0+1 1.18-5 1.33+9 2.0+13 through 4.0") == 0);
+    chip[128] = 3; /* nothing behind a bad place is met */
+    chip[192] = 1;
+    CHECK(strcmp(pass(), "0.0+4 1.0+1 1.18-5 1.33+9 bad 2.0") == 0);
+    chip[97 + 1] = 0, chip[97 + 2] = 32; /* the record in front of region 1's end, one byte too long */
+    CHECK(strcmp(pass(), "0.0+4 1.0+1 1.18-5 bad 1.33") == 0);
+    for (i = 0; i < 256; i++) { /* whatever the chip is full of, it ends */
+        memset(chip, (int)i, CHIP);
+        CHECK(strcmp(pass(), i == 255 ? "through 4.0" : "bad 0.0") == 0);
+    }
 }
 
 static uint8_t region[S];
@@ -402,6 +522,9 @@ static void null_images(void) {
             CHECK(refused(stilefray_zeroise_key(NULL, 0, s, n, 1), STILEFRAY_BAD_GEOMETRY));
             CHECK(refused(stilefray_garbage_collect(NULL, 0, s, n), STILEFRAY_BAD_GEOMETRY));
             CHECK(refused(stilefray_initialise(NULL, 0, s, n, 1), STILEFRAY_BAD_GEOMETRY));
+            CHECK(nowhere(stilefray_find_value(NULL, 0, s, n, 1), STILEFRAY_BAD_GEOMETRY));
+            CHECK(other(stilefray_record_at(NULL, 0, s, n, 0, 0), STILEFRAY_ENTRY_REFUSED, STILEFRAY_BAD_GEOMETRY, 0, 0));
+            CHECK(other(stilefray_record_at(NULL, 0, s, n, n, s), STILEFRAY_ENTRY_REFUSED, STILEFRAY_BAD_GEOMETRY, n, s));
         }
     CHECK(stilefray_checksum(NULL, 0) == stilefray_checksum(one, 0) && stilefray_checksum(NULL, 0) == 0xffffffffu);
 }
@@ -463,6 +586,9 @@ int main(void) {
     afternoons_5_to_7();
     afternoons_8_to_12();
     refusals_1_to_3();
+    found_values();
+    entries();
+    passes();
     runs(one);
     runs(NULL);
     late_services();

@@ -1,5 +1,5 @@
-//! The library's calls in its own numbers, as R12 of docs/RULES.md has them and `c/stilefray.h` declares them. The rest of the crate gives them names; most users need
-//! nothing from here.
+//! The library's calls in its own numbers, as R12 and R16.11 of docs/RULES.md have them and `c/stilefray.h` declares them. The rest of
+//! the crate gives them names; most users need nothing from here.
 //!
 //! Every `unsafe` of the crate stands in this file. The functions here are safe because the library asks only that each pointer lead to
 //! as many bytes as its length says and that no two lent parts overlap where one is written (R12.8), which Rust's slices always keep. It is
@@ -116,6 +116,50 @@ pub struct SteppedNumbers {
     pub request: RequestNumbers,
 }
 
+/// Where a key's value lies (R16.1, R16.2, R16.11).
+#[repr(C)]
+#[must_use]
+#[derive(Clone, Copy, Debug, PartialEq, Eq)]
+pub struct FoundNumbers {
+    /// Complete with the value's length, or refused.
+    pub answer: AnswerNumbers,
+    /// Complete: the place in the image of the value's first byte. Refused: 0.
+    pub place: usize,
+}
+
+/// A place of a chip (R16.4).
+#[repr(C)]
+#[derive(Clone, Copy, Debug, PartialEq, Eq)]
+pub struct Place {
+    /// The region's number.
+    pub region: usize,
+    /// The place, counted from the region's first byte.
+    pub place: usize,
+}
+
+/// What stands at a place of a chip, and where to go on (R16.4, R16.5, R16.11). Numbers that a kind does not use are 0.
+#[repr(C)]
+#[must_use]
+#[derive(Clone, Copy, Debug, PartialEq, Eq)]
+pub struct EntryNumbers {
+    /// 0 refused, 1 a record, 2 the region ends here, 3 the place is bad, 4 there is no such region.
+    pub kind: u32,
+    /// Refused: 1. Bad: 7 or 8. Else 0.
+    pub refusal: u32,
+    /// Record: 1 live, 0 dead.
+    pub live: u32,
+    /// Record: 1 if its checksum is that of its bytes, else 0.
+    pub sound: u32,
+    /// Record: its key.
+    pub key: u64,
+    /// Record: the place in the image of the value's first byte.
+    pub place: usize,
+    /// Record: the value's length.
+    pub length: usize,
+    /// Record: behind it. End, bad: the next region's first place. Else the place that was asked for.
+    pub next: Place,
+}
+
 #[rustfmt::skip]
 extern "C" {
     fn stilefray_get_key(image: *const u8, image_len: usize, s: usize, n: usize, key: u64, buffer: *mut u8, buffer_len: usize)
@@ -127,6 +171,8 @@ extern "C" {
     fn stilefray_garbage_collect(image: *mut u8, image_len: usize, s: usize, n: usize) -> AnswerNumbers;
     fn stilefray_initialise(image: *mut u8, image_len: usize, s: usize, n: usize, key: u64) -> AnswerNumbers;
     fn stilefray_checksum(bytes: *const u8, len: usize) -> u32;
+    fn stilefray_find_value(image: *const u8, image_len: usize, s: usize, n: usize, key: u64) -> FoundNumbers;
+    fn stilefray_record_at(image: *const u8, image_len: usize, s: usize, n: usize, region: usize, place: usize) -> EntryNumbers;
     fn stilefray_start_get(s: usize, n: usize, key: u64, capacity: usize) -> StartNumbers;
     fn stilefray_start_append(s: usize, n: usize, key: u64, length: usize) -> StartNumbers;
     fn stilefray_start_invalidate(s: usize, n: usize, key: u64) -> StartNumbers;
@@ -185,6 +231,20 @@ pub fn initialise(image: &mut [u8], s: usize, n: usize, key: u64) -> AnswerNumbe
 pub fn checksum(bytes: &[u8]) -> u32 {
     // SAFETY: the slice is valid for its length, and nothing else is lent.
     unsafe { stilefray_checksum(bytes.as_ptr(), bytes.len()) }
+}
+
+/// `stilefray_find_value`.
+#[inline]
+pub fn find_value(image: &[u8], s: usize, n: usize, key: u64) -> FoundNumbers {
+    // SAFETY: the slice is valid for its length, and is only read.
+    unsafe { stilefray_find_value(image.as_ptr(), image.len(), s, n, key) }
+}
+
+/// `stilefray_record_at`.
+#[inline]
+pub fn record_at(image: &[u8], s: usize, n: usize, region: usize, place: usize) -> EntryNumbers {
+    // SAFETY: the slice is valid for its length, and is only read.
+    unsafe { stilefray_record_at(image.as_ptr(), image.len(), s, n, region, place) }
 }
 
 /// `stilefray_start_get`.

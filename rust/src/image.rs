@@ -22,7 +22,11 @@
 //! assert_eq!(chip, [255u8; 256]);
 //! # Ok::<(), Refusal>(())
 //! ```
+//!
+//! [`value`], [`records`] and [`record_at`] look into an image: they only read it, copy nothing, and lend what they find as a part of it
+//! (R16). A [`Store`](crate::Store) has no image to look into: for that read the chip's regions into one, region 0 first.
 use crate::ffi;
+pub use crate::looking::{record_at, records, value, BadPlace, Entry, Place, Record, Records, Shown};
 use crate::refusal::{Answer, Refusal, Success};
 
 /// The value of a key, copied to the front of `buffer`; its length is the answer, and the buffer's bytes after it stay (R5.2).

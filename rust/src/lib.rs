@@ -6,7 +6,8 @@
 //! - [`Store`]: over your [`Flash`], one call for an operation, blocking or for an executor; or the operation [`Underway`], one service at
 //!   a time.
 //! - [`stepped`]: the operations as plain data, one flash service at a time, with no flash and no buffer of their own.
-//! - [`image`](mod@image): one call for an operation, on an image of the chip in memory.
+//! - [`image`](mod@image): one call for an operation, on an image of the chip in memory; and to look into one, value by value and record
+//!   by record.
 //!
 //! Every call takes whatever it is given, and answers, as long as each call of its flash returns; what it refuses it refuses by one of
 //! twelve [`Refusal`]s. The crate allocates nothing, has nothing in it that panics, and needs no `std`. What the store does is laid down,
@@ -60,6 +61,7 @@ mod failure;
 pub mod ffi;
 mod flash;
 pub mod image;
+mod looking;
 mod refusal;
 pub mod stepped;
 mod store;

@@ -3,9 +3,18 @@
 mod common;
 use common::package::Package;
 
-/// Each program that must be refused, and the compiler's number for why: borrowed mutably twice; borrowed and assigned to; moved away.
-const REFUSED: [(&str, &str); 5] =
-    [("interleaved", "E0499"), ("two_at_once", "E0499"), ("awaited", "E0499"), ("altered", "E0506"), ("copied", "E0382")];
+/// Each program that must be refused, and the compiler's number for why: borrowed mutably twice; borrowed and assigned to; moved away;
+/// lent and borrowed mutably; lent for longer than it lives.
+const REFUSED: [(&str, &str); 8] = [
+    ("interleaved", "E0499"),
+    ("two_at_once", "E0499"),
+    ("awaited", "E0499"),
+    ("altered", "E0506"),
+    ("copied", "E0382"),
+    ("lent", "E0502"),
+    ("listed", "E0502"),
+    ("outlived", "E0597"),
+];
 
 #[test]
 fn what_must_not_interleave_does_not_compile() {

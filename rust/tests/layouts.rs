@@ -1,6 +1,6 @@
 //! The layout of each struct that crosses over, against the numbers that c/test.c asserts too.
 use std::mem::{align_of, offset_of, size_of};
-use stilefray::ffi::{AnswerNumbers, Operation, RequestNumbers, StartNumbers, SteppedNumbers};
+use stilefray::ffi::{AnswerNumbers, EntryNumbers, FoundNumbers, Operation, Place, RequestNumbers, StartNumbers, SteppedNumbers};
 
 fn width<T, F>(_: fn(&T) -> &F) -> usize {
     size_of::<F>()
@@ -69,4 +69,27 @@ fn a_stepped_lies_as_in_c() {
     assert_eq!((size_of::<SteppedNumbers>(), align_of::<SteppedNumbers>()), (176, 8));
     lies!(SteppedNumbers, op, 0, 120);
     lies!(SteppedNumbers, request, 120, 56);
+}
+
+#[test]
+fn a_found_lies_as_in_c() {
+    assert_eq!((size_of::<FoundNumbers>(), align_of::<FoundNumbers>()), (24, 8));
+    lies!(FoundNumbers, answer, 0, 16);
+    lies!(FoundNumbers, place, 16, 8);
+}
+
+#[test]
+fn an_entry_and_its_place_lie_as_in_c() {
+    assert_eq!((size_of::<Place>(), align_of::<Place>()), (16, 8));
+    lies!(Place, region, 0, 8);
+    lies!(Place, place, 8, 8);
+    assert_eq!((size_of::<EntryNumbers>(), align_of::<EntryNumbers>()), (56, 8));
+    lies!(EntryNumbers, kind, 0, 4);
+    lies!(EntryNumbers, refusal, 4, 4);
+    lies!(EntryNumbers, live, 8, 4);
+    lies!(EntryNumbers, sound, 12, 4);
+    lies!(EntryNumbers, key, 16, 8);
+    lies!(EntryNumbers, place, 24, 8);
+    lies!(EntryNumbers, length, 32, 8);
+    lies!(EntryNumbers, next, 40, 16);
 }

@@ -11,10 +11,12 @@ use Rattle.replies.specs.declared.CAnswer.{CAnswer}
 use Rattle.operations.specs.declared.COperation.{COperation}
 use Rattle.numbers.specs.declared.CStart.{CStart}
 use Rattle.numbers.specs.declared.CStepped.{CStepped}
+use Rattle.sights.specs.declared.CFound.{CFound}
+use Rattle.sights.specs.declared.CEntry.{CEntry}
 use Rattle.stilefray.specs.Stepped.{badCall, stepNumbers, stepRegion, stepBuffer}
 use Rattle.stilefray.specs.Allows.{GetKeyAllows, AppendKeyAllows, InvalidateKeyAllows, ZeroiseKeyAllows, GarbageCollectAllows, InitialiseAllows}
 use Rattle.stilefray.specs.Allows.{StartGetAllows, StartAppendAllows, StartInvalidateAllows, StartZeroiseAllows, StartCollectAllows, StartInitialiseAllows}
-use Rattle.stilefray.specs.Allows.{StepAllows, ChecksumAllows}
+use Rattle.stilefray.specs.Allows.{StepAllows, ChecksumAllows, FindValueAllows, RecordAtAllows}
 use Rattle.exports.specs.Misfits.{Misfits}
 use Rattle.exports.specs.Inside.{InsideNumbers, ReadsNumbers}
 use Rattle.exports.proofs.Numbers.{bad-call, flash-failed, inside, region-altered, buffer-altered, misfits-keep}
@@ -142,3 +144,10 @@ step-only-one o y region value buffer (p, q, u) (p′, q′, u′) = (only-one p
 -- R7.5: the checksum alone.
 pub checksum-only-one : (bytes : List ℕ) {a a′ : ℕ} → ChecksumAllows bytes a → ChecksumAllows bytes a′ → a ≡ a′
 checksum-only-one bytes = only-one
+
+-- R7.5: looking into a chip: where a key's value lies, and what stands at a place.
+pub find-value-only-one : (image : List ℕ) (s n key : ℕ) {a a′ : CFound} → FindValueAllows image s n key a → FindValueAllows image s n key a′ → a ≡ a′
+find-value-only-one image s n key = only-one
+
+pub record-at-only-one : (image : List ℕ) (s n region place : ℕ) {a a′ : CEntry} → RecordAtAllows image s n region place a → RecordAtAllows image s n region place a′ → a ≡ a′
+record-at-only-one image s n region place = only-one

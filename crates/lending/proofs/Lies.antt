@@ -80,3 +80,17 @@ not-complete image place (Complete len) k = absurd (⊎-elim (eqb-false 0 1 refl
 not-complete image place Written k = refl
 not-complete image place (Freed bytes) k = refl
 not-complete image place (Refused w) k = refl
+
+-- where it refuses the place is 0
+pub refused-place : (image : List ℕ) (s n key : ℕ) (w : Refusal) → companionOf image s n key ≡ Refused w → locatedOf image s n key .place ≡ 0
+unfolding locatedOf
+refused-place image s n key w q = go (hitOf image s n key) q
+  where
+    found : (r : ℕ) (x : Record) (b : Bool) → cond b (record { answer = Complete (valueLength x); place = r * s + x .at + 11 }) (nowhere Refusal.InvalidCheckSum) .answer ≡ Refused w
+        → cond b (record { answer = Complete (valueLength x); place = r * s + x .at + 11 }) (nowhere Refusal.InvalidCheckSum) .place ≡ 0
+    found r x true q = absurd (refuses _ _ (sym q))
+    found r x false q = refl
+
+    go : (hit : Hit) → locatedBy s image hit .answer ≡ Refused w → locatedBy s image hit .place ≡ 0
+    go (Hit.Refused v) q = refl
+    go (Hit.Live r x) q = found r x (checkSumFits (bytesIn (regionOf s image r) x)) q

@@ -1,0 +1,1 @@
+// What the program reads and shows, pinned down by theorems about the definitions: there is no code here.

@@ -1,0 +1,4 @@
+pub mod Values
+pub mod Passes
+pub mod Members
+pub mod Theorems
