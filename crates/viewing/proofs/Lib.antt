@@ -1,4 +1,5 @@
 pub mod Values
 pub mod Passes
 pub mod Members
+pub mod Bytes
 pub mod Theorems

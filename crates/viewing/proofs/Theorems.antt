@@ -2,13 +2,17 @@
 -- Assumes nothing.
 use Prim.Native.Nat.{ℕ, _+_, _≤_, _<_}
 use native.Mathlib.Omega.{arith}
-use mathlib.Core.Path.{_≡_, refl, sym, _∙_, ap}
-use mathlib.Core.Bool.{true}
+use mathlib.Core.Path.{_≡_, sym, _∙_, ap}
+use mathlib.Core.Bool.{Bool, true}
 use mathlib.Core.Logic.{_⊎_, inl, inr, ⊎-elim, _↔_}
 use mathlib.Core.List.{List, [], _++_, append-nil, List·Memᴰ}
-use lib.ListN.{length, take, drop}
+use lib.ListN.{length, getD, take, drop}
 use lib.Seq.{drop-length}
 use Rattle.chip.specs.Geometry.{Fits}
+use Rattle.format.specs.declared.Record.{Record}
+use Rattle.region.specs.declared.Met.{Met}
+use Rattle.region.specs.declared.Stop.{Stop}
+use Rattle.region.specs.Walk.{metAt}
 use Rattle.refusals.specs.declared.Refusal.{Refusal}
 use Rattle.plans.specs.declared.Answer.{Answer}
 use Rattle.plans.specs.declared.Answer.the-variants.{Complete, Refused}
@@ -18,13 +22,15 @@ use Rattle.bindings.proofs.Theorems.{get-finds}
 use Rattle.lending.specs.declared.Located.{Located}
 use Rattle.lending.specs.Lending.{locatedOf, companionOf, partAt, valueOf}
 use Rattle.lending.proofs.Lies.{lent, refused-place}
+use Rattle.entries.specs.declared.Entry.{Entry}
 use Rattle.entries.specs.declared.Shown.{Shown}
-use Rattle.entries.specs.Entries.{shownAt}
-use Rattle.entries.specs.Inventory.{Item, through, inventory}
+use Rattle.entries.specs.Entries.{entryIn, shownAt}
+use Rattle.entries.specs.Inventory.{through, inventory}
 use Rattle.viewing.specs.Passes.{pass, whole, callsFor, mostCalls}
 use Rattle.viewing.proofs.Values as Values
 use Rattle.viewing.proofs.Passes as Passes
 use Rattle.viewing.proofs.Members as Members
+use Rattle.viewing.proofs.Bytes as Bytes
 
 -- The value that is lent. For any image, S, N and key.
 module _ (image : List ℕ) (s n key : ℕ) where
@@ -93,6 +99,18 @@ bound-is-lent {s} {n} {image} w key value b = (completes, is completes)
         ∙ ap (λ (g : Got). g .buffer) (sym (part-is-got image s n key (length value) value q (omega arith)) ∙ got)
         ∙ ap (λ l. value ++ l) (drop-length value)
         ∙ append-nil value
+
+-- What stands at a place.
+
+-- R16.5: where a record stands, its bytes alone say what is shown: those before and behind it may be any.
+pub only-the-record : (region′ region : List ℕ) (o : ℕ) (x : Record) (sound : Bool) → entryIn region o ≡ Entry.Stands x sound → length region′ ≡ length region
+    → take (x .len) (drop o region′) ≡ take (x .len) (drop o region) → entryIn region′ o ≡ entryIn region o
+only-the-record = Bytes.record-alone
+
+-- R16.5: elsewhere the eleven bytes of a header do.
+pub only-the-header : (region′ region : List ℕ) (o : ℕ) (s : Stop) → metAt region o ≡ Met.Stop s → length region′ ≡ length region
+    → ((k : ℕ) → k < 11 → getD region′ (o + k) 0 ≡ getD region (o + k) 0) → entryIn region′ o ≡ entryIn region o
+only-the-header = Bytes.header-alone
 
 -- A pass over a chip.
 
