@@ -1,2 +1,3 @@
 pub mod Decimal
 pub mod Intake
+pub mod Theorems
