@@ -67,12 +67,12 @@ sixteen key k h f = go (leb k 16) refl
         let p : 16 ^ 16 ≤ 16 ^ (k - 1) = pow-le-pow-right (omega arith) {i = 16} {j = k - 1} (omega arith) in
         absurd (omega (arith, f .2 l))
 
--- no more digits than that power of ten has zeros
-short-in : (k j n : ℕ) → n < 10 ^ suc k → length (decimalIn j n) ≤ suc k
+-- a number below a power of ten has no more digits than the power has zeros
+pub decimal-length : (k j n : ℕ) → n < 10 ^ suc k → length (decimalIn j n) ≤ suc k
 unfolding decimalIn
-short-in k zero n h = omega arith
-short-in zero (suc j) n h = rw (lt-ltb n 10 (omega arith)) (omega arith)
-short-in (suc k) (suc j) n h = go (ltb n 10) (short-in k j (n / 10) (omega arith))
+decimal-length k zero n h = omega arith
+decimal-length zero (suc j) n h = rw (lt-ltb n 10 (omega arith)) (omega arith)
+decimal-length (suc k) (suc j) n h = go (ltb n 10) (decimal-length k j (n / 10) (omega arith))
   where
     go : (b : Bool) → length (decimalIn j (n / 10)) ≤ suc k → length (cond b ((48 + n) ∷ []) (decimalIn j (n / 10) ++ ((48 + n % 10) ∷ []))) ≤ suc (suc k)
     go true l = omega arith
@@ -80,16 +80,13 @@ short-in (suc k) (suc j) n h = go (ltb n 10) (short-in k j (n / 10) (omega arith
 
 -- a number below 100,000 has five digits at most, and its field one byte more
 pub short-decimal : (n : ℕ) → n < 100000 → length (decimal n) ≤ 5
-short-decimal n h = short-in 4 (suc n) n (omega arith)
+short-decimal n h = decimal-length 4 (suc n) n (omega arith)
 
 pub short-digits : (n k : ℕ) (text : List ℕ) → n < 100000 → Fewest 10 1 n k → take k text ≡ digits 10 k n → length (take k text) ≤ 5
 short-digits n k text h f e = omega (arith, ap length (e ∙ decimal-digits k n f), short-decimal n h)
 
 pub short-field : (n e : ℕ) → n < 100000 → length (field n e) ≤ 6
 short-field n e h = omega (arith, short-decimal n h, length-append (decimal n) (e ∷ []))
-
-pub length-key : (key : ℕ) → length (keyField key) ≡ 17
-length-key key = refl
 
 pub length-state : (x : Record) → length (state x) ≡ 5
 length-state x = go (live x)
@@ -102,10 +99,12 @@ length-state x = go (live x)
 abbrev pub Put : List ℕ → ℕ → List ℕ → List ℕ → ℕ → Type 0
 Put l at b l′ r = (l′ ≡ sets l at b) × (r ≡ at + length b)
 
+-- one run of bytes behind the other is one run
 pub put-more : (l l₁ l₂ b c : List ℕ) (at r₁ r₂ : ℕ) → Put l at b l₁ r₁ → Put l₁ r₁ c l₂ r₂ → Put l at (b ++ c) l₂ r₂
 put-more l l₁ l₂ b c at r₁ r₂ p q =
     (q .0 ∙ (λ i. sets (p .0 i) (p .1 i) c) ∙ sym (sets-append l at b c), omega (arith, p .1, q .1, length-append b c))
 
+-- a line has 40 bytes at most, a bad place's 16
 pub short-line : (r : ℕ) (x : Record) → r < 100000 → x .at < 100000 → x .len < 100000 → length (lineOf r x) ≤ 40
 unfolding lineOf
 short-line r x h k l =

@@ -34,7 +34,7 @@ fn list_from(image: &[u8], s: usize, n: usize, out: &mut [u8], at: usize) -> usi
                 region = shown.next.region;
                 place = shown.next.at;
             }
-            // A bad place ends the list: it goes on behind the last region.
+            // A bad place ends the list: nothing is behind it, as nothing is behind the last region.
             Entry::Bad(_) => {
                 end = lines::put_bad(out, end, region, place);
                 region = n;
