@@ -43,19 +43,6 @@ decimal-room (suc k) (suc j) n h l =
     (λ s. decimal-small k n s ∙ sym (decimal-small j n s))
     (λ b. decimal-large k n b ∙ ap (λ (x : List ℕ). x ++ ((48 + n % 10) ∷ [])) (decimal-room k j (n / 10) (omega arith) (omega arith)) ∙ sym (decimal-large j n b))
 
--- A number has a digit for each power of ten that it reaches.
-pub decimal-length : (j k n : ℕ) → n < 10 ^ suc j → length (decimalIn k n) ≤ suc j
-unfolding decimalIn
-decimal-length j zero n h = omega arith
-decimal-length zero (suc k) n h = omega (arith, ap length (decimal-small k n (omega arith)))
-decimal-length (suc j) (suc k) n h =
-    by-size n
-    (λ s. omega (arith, ap length (decimal-small k n s)))
-    (λ b.
-    let i : length (decimalIn k (n / 10)) ≤ suc j = decimal-length j k (n / 10) (omega arith) in
-    let e : length (decimalIn (suc k) n) ≡ length (decimalIn k (n / 10)) + 1 = ap length (decimal-large k n b) ∙ length-append (decimalIn k (n / 10)) ((48 + n % 10) ∷ []) in
-    omega arith)
-
 -- One digit more.
 decimal-on : (v b : ℕ) → 1 ≤ v → isDigit b ≡ true → decimal (v * 10 + (b - 48)) ≡ decimal v ++ (b ∷ [])
 decimal-on v b h e =

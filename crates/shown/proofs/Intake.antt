@@ -17,7 +17,8 @@ use Rattle.intake.specs.declared.Intake.{Intake}
 use Rattle.intake.specs.Intake.{mostImage, Number, numberAt, sizeIn, countIn, intakeOf}
 use Rattle.intake.proofs.Taken.{isImage, image-small, Accepted, accepted-facts, facts-accepted, taken}
 use Rattle.shown.specs.Words.{firstLine}
-use Rattle.shown.proofs.Decimal.{decimal-length, word-at, reads-back}
+use Rattle.lines.proofs.Written.{decimal-length}
+use Rattle.shown.proofs.Decimal.{word-at, reads-back}
 
 line-image : (s n : ℕ) (image : List ℕ) → firstLine s n ++ image ≡ decimal s ++ (space ∷ (decimal n ++ (lineFeed ∷ image)))
 line-image s n image = simp append-assoc
