@@ -5,7 +5,7 @@ use native.Mathlib.Omega.{arith}
 use mathlib.Core.Path.{_≡_, refl, sym, _∙_, ap}
 use mathlib.Core.Bool.{Bool, true, false, not, cond}
 use mathlib.Core.Logic.{_⊎_, inl, inr}
-use mathlib.Core.List.{List, [], _++_}
+use mathlib.Core.List.{List, [], _∷_, _++_}
 use lib.Dec.{ltb}
 use lib.ListN.{length, take, drop, length-take, length-drop}
 use lib.Seq.{take-take, drop-drop, length-take-le}
@@ -20,7 +20,7 @@ use Rattle.format.specs.Layout.{checkSumFits}
 use Rattle.region.specs.Walk.{bytesIn, valueLength, valueIn}
 use Rattle.refusals.specs.declared.Refusal.{Refusal}
 use Rattle.refusals.specs.declared.Check.{Check}
-use Rattle.refusals.specs.Refusals.{refusalOf, firstRefusal}
+use Rattle.refusals.specs.Refusals.{valueOf as carried, refusalOf, firstRefusal}
 use Rattle.lookup.specs.declared.Need.{Need}
 use Rattle.lookup.specs.declared.Looked.{Looked}
 use Rattle.lookup.specs.declared.Hit.{Hit}
@@ -92,63 +92,49 @@ got-answer image s n key buffer = go (hitOf image s n key) refl
     go (Hit.Refused w) e = inl (rw e)
     go (Hit.Live r x) e = rw e (short r x (held image s n key r x e .found .short) (ltb (length buffer) (valueLength x)) refl)
 
--- No lookup ends with BufferTooSmall.
-abbrev notShort : Refusal → Bool
-notShort Refusal.BadGeometry = true
-notShort Refusal.BadKey = true
-notShort Refusal.ObjectTooLarge = true
-notShort Refusal.KeyNotFound = true
-notShort Refusal.KeyAlreadyExists = true
-notShort Refusal.FlashFull = true
-notShort Refusal.UnsupportedVersion = true
-notShort Refusal.CorruptData = true
-notShort (Refusal.BufferTooSmall len) = false
-notShort Refusal.InvalidCheckSum = true
-notShort Refusal.BadCall = true
-notShort Refusal.FlashFailed = true
+-- No lookup ends with BufferTooSmall, the one refusal that carries something. Nothing is odd about Complete, and about a refusal that carries
+-- nothing.
+abbrev odd : Answer → List ℕ
+odd (Complete len) = []
+odd Written = 0 ∷ []
+odd (Freed bytes) = 0 ∷ []
+odd (Refused w) = carried w
 
--- an answer that is Complete, or a refusal other than BufferTooSmall
-abbrev plain : Answer → Bool
-plain (Complete len) = true
-plain Written = false
-plain (Freed bytes) = false
-plain (Refused w) = notShort w
+not-odd-fault : (f : Fault) → odd (Refused (refusalOf f)) ≡ []
+not-odd-fault UnsupportedVersion = refl
+not-odd-fault CorruptData = refl
 
-plain-fault : (f : Fault) → plain (Refused (refusalOf f)) ≡ true
-plain-fault UnsupportedVersion = refl
-plain-fault CorruptData = refl
-
-plain-looked : (s : ℕ) (image : List ℕ) (looked : Looked) → plain (locatedBy s image (hitBy looked) .answer) ≡ true
-plain-looked s image (Looked.Live r x) = go (checkSumFits (bytesIn (regionOf s image r) x)) refl
+not-odd-looked : (s : ℕ) (image : List ℕ) (looked : Looked) → odd (locatedBy s image (hitBy looked) .answer) ≡ []
+not-odd-looked s image (Looked.Live r x) = go (checkSumFits (bytesIn (regionOf s image r) x)) refl
   where
-    go : (b : Bool) → checkSumFits (bytesIn (regionOf s image r) x) ≡ b → plain (locatedBy s image (Hit.Live r x) .answer) ≡ true
+    go : (b : Bool) → checkSumFits (bytesIn (regionOf s image r) x) ≡ b → odd (locatedBy s image (Hit.Live r x) .answer) ≡ []
     go true e = rw e
     go false e = rw e
-plain-looked s image (Looked.Bad f p) = plain-fault f
-plain-looked s image (Looked.Through seen) = refl
+not-odd-looked s image (Looked.Bad f p) = not-odd-fault f
+not-odd-looked s image (Looked.Through seen) = refl
 
-plain-after : (image : List ℕ) (s n key : ℕ) (a b c : Bool)
-    → plain (locatedBy s image (hitAfter image s n key (cond (not a) (Check.Refused Refusal.BadGeometry) (cond (not b) (Check.Refused Refusal.BadKey) (cond c (Check.Refused Refusal.ObjectTooLarge) Check.Fine)))) .answer) ≡ true
-plain-after image s n key false b c = refl
-plain-after image s n key true false c = refl
-plain-after image s n key true true true = refl
-plain-after image s n key true true false = plain-looked s image (lookupIn key Need.Nothing s image (probes key n))
+not-odd-after : (image : List ℕ) (s n key : ℕ) (a b c : Bool)
+    → odd (locatedBy s image (hitAfter image s n key (cond (not a) (Check.Refused Refusal.BadGeometry) (cond (not b) (Check.Refused Refusal.BadKey) (cond c (Check.Refused Refusal.ObjectTooLarge) Check.Fine)))) .answer) ≡ []
+not-odd-after image s n key false b c = refl
+not-odd-after image s n key true false c = refl
+not-odd-after image s n key true true true = refl
+not-odd-after image s n key true true false = not-odd-looked s image (lookupIn key Need.Nothing s image (probes key n))
 
-companion-plain : (image : List ℕ) (s n key : ℕ) → plain (companionOf image s n key) ≡ true
+companion-not-odd : (image : List ℕ) (s n key : ℕ) → odd (companionOf image s n key) ≡ []
 unfolding locatedOf hitOf firstRefusal
-companion-plain image s n key = plain-after image s n key (geometry image s n) (allowedKey key) (ltb 4079 0)
+companion-not-odd image s n key = not-odd-after image s n key (geometry image s n) (allowedKey key) (ltb 4079 0)
 
 -- The companion completes or refuses, and what it refuses by is no BufferTooSmall.
 pub completes-or-refuses : (image : List ℕ) (s n key : ℕ)
     → ((len : ℕ) × (companionOf image s n key ≡ Complete len)) ⊎ ((w : Refusal) × (companionOf image s n key ≡ Refused w) × ((len : ℕ) → w ≡ Refusal.BufferTooSmall len → ⊥))
-completes-or-refuses image s n key = go (companionOf image s n key) refl (companion-plain image s n key)
+completes-or-refuses image s n key = go (companionOf image s n key) refl (companion-not-odd image s n key)
   where
-    short : (w : Refusal) → notShort w ≡ true → (len : ℕ) → w ≡ Refusal.BufferTooSmall len → ⊥
-    short w p len e = let z : true ≡ false = sym p ∙ ap notShort e in let y : _≡_ {A = ℕ} 0 1 = cc in omega arith
+    short : (w : Refusal) → carried w ≡ [] → (len : ℕ) → w ≡ Refusal.BufferTooSmall len → ⊥
+    short w p len e = let z : _≡_ {A = ℕ} 0 1 = sym (ap length p) ∙ ap (λ v. length (carried v)) e in omega arith
 
-    go : (a : Answer) → companionOf image s n key ≡ a → plain a ≡ true
+    go : (a : Answer) → companionOf image s n key ≡ a → odd a ≡ []
         → ((len : ℕ) × (companionOf image s n key ≡ Complete len)) ⊎ ((w : Refusal) × (companionOf image s n key ≡ Refused w) × ((len : ℕ) → w ≡ Refusal.BufferTooSmall len → ⊥))
     go (Complete len) e p = inl (len, e)
-    go Written e p = absurd (let y : _≡_ {A = ℕ} 0 1 = cc in omega arith)
-    go (Freed bytes) e p = absurd (let y : _≡_ {A = ℕ} 0 1 = cc in omega arith)
+    go Written e p = absurd (let z : _≡_ {A = ℕ} 1 0 = ap length p in omega arith)
+    go (Freed bytes) e p = absurd (let z : _≡_ {A = ℕ} 1 0 = ap length p in omega arith)
     go (Refused w) e p = inr (w, e, short w p)
