@@ -2,6 +2,7 @@
 //! same inputs in one run. A ratio is our time over theirs.
 
 use crate::bench_chip::{chip, Chip};
+use crate::bench_look;
 use crate::crate_side::Memory;
 use crate::prng::Prng;
 use crate::straight::{self, checksum};
@@ -16,7 +17,7 @@ const ROUNDS: usize = 15;
 const AT_LEAST: Duration = Duration::from_millis(8);
 
 /// One pass over a row's inputs: the time it took and the calls it made.
-type Pass<'a> = &'a mut dyn FnMut() -> (Duration, usize);
+pub type Pass<'a> = &'a mut dyn FnMut() -> (Duration, usize);
 
 /// Nanoseconds a call, over passes of at least the time wanted.
 fn timed(passes: usize, pass: Pass) -> f64 {
@@ -40,7 +41,7 @@ fn median(numbers: &mut [f64]) -> f64 {
     numbers[numbers.len() / 2]
 }
 
-fn row(name: &str, ours: Pass, theirs: Pass) {
+pub fn row(name: &str, ours: Pass, theirs: Pass) {
     let passes = (enough(ours), enough(theirs));
     let (mut a, mut b, mut ratios) = (Vec::new(), Vec::new(), Vec::new());
     for round in 0..ROUNDS {
@@ -66,12 +67,12 @@ fn row(name: &str, ours: Pass, theirs: Pass) {
 }
 
 /// Keeps an answer that nobody reads from being left out.
-fn sink<T>(answer: T) {
+pub fn sink<T>(answer: T) {
     black_box(answer);
 }
 
 /// Times one call for each key.
-fn each(keys: &[u64], mut call: impl FnMut(u64)) -> (Duration, usize) {
+pub fn each(keys: &[u64], mut call: impl FnMut(u64)) -> (Duration, usize) {
     let start = Instant::now();
     keys.iter().for_each(|key| call(black_box(*key)));
     (start.elapsed(), keys.len())
@@ -222,6 +223,8 @@ pub fn run() {
     all(Form::Store, &chips);
     all(Form::OneCall, &chips);
     checksums();
+    chips.iter().for_each(bench_look::values);
+    chips.iter().for_each(bench_look::passes);
     println!("{NOTES}");
     crate::bench_steps::run();
 }

@@ -3,6 +3,7 @@
 mod afternoons;
 mod bench;
 mod bench_chip;
+mod bench_look;
 mod bench_steps;
 mod by_store;
 mod choose;
