@@ -135,14 +135,14 @@ typedef struct {
 
 /* What stands at a place of a chip, and where to go on (R16.4, R16.5). Numbers that a kind does not use are 0 (R16.11). */
 typedef struct {
-    uint32_t kind;        /* STILEFRAY_ENTRY_.. */
-    uint32_t refusal;     /* refused: 1; bad: 7 or 8; else 0 */
-    uint32_t live;        /* record: 1 live, 0 dead */
-    uint32_t sound;       /* record: 1 if its checksum is that of its bytes. Of a dead one that says nothing (R3.6) */
-    uint64_t key;         /* record: its key */
-    size_t place;         /* record: the place in the image of the value's first byte */
-    size_t length;        /* record: the value's length */
-    stilefray_place next; /* record: behind it; end, bad: the next region's first place; else the place that was asked for */
+    uint32_t kind;           /* STILEFRAY_ENTRY_.. */
+    uint32_t refusal;        /* refused: 1; bad: 7 or 8; else 0 */
+    uint32_t live;           /* record: 1 live, 0 dead */
+    uint32_t checksum_right; /* record: 1 if its checksum is that of its bytes. Of a dead one that says nothing (R3.6) */
+    uint64_t key;            /* record: its key */
+    size_t value_place;      /* record: the place in the image of the value's first byte */
+    size_t value_len;        /* record: the value's length */
+    stilefray_place next;    /* record: behind it; end, bad: the next region's first place; else the place that was asked for */
 } stilefray_entry;
 
 /*
@@ -269,7 +269,7 @@ stilefray_found stilefray_find_value(const uint8_t *image, size_t image_len, siz
  *     for (;;) {
  *         e = stilefray_record_at(image, image_len, s, n, at.region, at.place);
  *         if (e.kind != STILEFRAY_ENTRY_RECORD && e.kind != STILEFRAY_ENTRY_END) break;
- *         if (e.kind == STILEFRAY_ENTRY_RECORD) look(at, e.live, e.key, image + e.place, e.length);
+ *         if (e.kind == STILEFRAY_ENTRY_RECORD) look(at, e.live, e.key, image + e.value_place, e.value_len);
  *         at = e.next;
  *     }
  *

@@ -79,10 +79,10 @@ FILLS(entry, 56);
 LIES(entry, kind, 0, 4);
 LIES(entry, refusal, 4, 4);
 LIES(entry, live, 8, 4);
-LIES(entry, sound, 12, 4);
+LIES(entry, checksum_right, 12, 4);
 LIES(entry, key, 16, 8);
-LIES(entry, place, 24, 8);
-LIES(entry, length, 32, 8);
+LIES(entry, value_place, 24, 8);
+LIES(entry, value_len, 32, 8);
 LIES(entry, next, 40, 16);
 
 enum { S = 64, N = 4, CHIP = 256 };
@@ -221,13 +221,13 @@ static void found_values(void) {
 static stilefray_entry entry(size_t r, size_t o) { return stilefray_record_at(chip, CHIP, S, N, r, o); }
 /* No record: what else, and where to go on. */
 static int other(stilefray_entry e, uint32_t kind, uint32_t refusal, size_t r, size_t o) {
-    return e.kind == kind && e.refusal == refusal && e.live == 0 && e.sound == 0 && e.key == 0 && e.place == 0 && e.length == 0 &&
+    return e.kind == kind && e.refusal == refusal && e.live == 0 && e.checksum_right == 0 && e.key == 0 && e.value_place == 0 && e.value_len == 0 &&
            e.next.region == r && e.next.place == o;
 }
 /* A record, whose value lies there; four bytes behind it the next begins. */
 static int stands(stilefray_entry e, uint32_t live, uint32_t sound, uint64_t key, size_t place, size_t len) {
-    return e.kind == STILEFRAY_ENTRY_RECORD && e.refusal == 0 && e.live == live && e.sound == sound && e.key == key && e.place == place &&
-           e.length == len && e.next.region == place / S && e.next.place == place % S + len + 4;
+    return e.kind == STILEFRAY_ENTRY_RECORD && e.refusal == 0 && e.live == live && e.checksum_right == sound && e.key == key && e.value_place == place &&
+           e.value_len == len && e.next.region == place / S && e.next.place == place % S + len + 4;
 }
 
 /* Region 1: live, dead, live with a wrong checksum. Region 2: two records up to its end. Region 3: a dead one, zeroised. */

@@ -17,10 +17,10 @@ struct Entry {
     kind: u32,
     refusal: u32,
     live: u32,
-    sound: u32,
+    checksum_right: u32,
     key: u64,
-    place: usize,
-    length: usize,
+    value_place: usize,
+    value_len: usize,
     next: Place,
 }
 
@@ -50,17 +50,17 @@ const OVER: u32 = 4;
 /// the value lies, whether the checksum is that of the bytes, and where to go on.
 fn line(image: &[u8], s: usize, at: Place, entry: Entry) -> Option<String> {
     let start = at.region * s + at.place;
-    let sum = start + entry.length + BEFORE_VALUE;
+    let sum = start + entry.value_len + BEFORE_VALUE;
     let right = image.get(sum..sum + 4)? == checksum::of(&image[start..sum]).to_le_bytes();
-    let next = Place { region: at.region, place: at.place + entry.length + FRAME };
-    let agrees = entry.place == start + BEFORE_VALUE
-        && entry.sound == u32::from(right)
+    let next = Place { region: at.region, place: at.place + entry.value_len + FRAME };
+    let agrees = entry.value_place == start + BEFORE_VALUE
+        && entry.checksum_right == u32::from(right)
         && entry.live < 2
         && entry.refusal == 0
         && entry.next == next;
     let state = ["dead", "live"][entry.live as usize % 2];
     agrees.then(|| {
-        format!("{} {} {state} {:016x} {}\n", at.region, at.place, entry.key, entry.length)
+        format!("{} {} {state} {:016x} {}\n", at.region, at.place, entry.key, entry.value_len)
     })
 }
 

@@ -149,13 +149,13 @@ pub struct EntryNumbers {
     /// Record: 1 live, 0 dead.
     pub live: u32,
     /// Record: 1 if its checksum is that of its bytes, else 0.
-    pub sound: u32,
+    pub checksum_right: u32,
     /// Record: its key.
     pub key: u64,
     /// Record: the place in the image of the value's first byte.
-    pub place: usize,
+    pub value_place: usize,
     /// Record: the value's length.
-    pub length: usize,
+    pub value_len: usize,
     /// Record: behind it. End, bad: the next region's first place. Else the place that was asked for.
     pub next: Place,
 }

@@ -1,5 +1,6 @@
 //! A look into an image: a key's value where it lies, and the records one after the other.
 use crate::ffi;
+#[doc(inline)]
 pub use crate::ffi::Place;
 use crate::refusal::{Refusal, Success};
 use core::error::Error;
@@ -94,6 +95,13 @@ impl fmt::Display for BadPlace {
 
 impl Error for BadPlace {}
 
+/// Where it is in the way that an answer of `records` is another error than a call's: the refusal that such a call meets there.
+impl From<BadPlace> for Refusal {
+    fn from(bad: BadPlace) -> Refusal {
+        bad.refusal
+    }
+}
+
 /// What stands at a place of a chip (R16.4).
 #[derive(Clone, Copy, Debug, PartialEq, Eq)]
 pub enum Entry<'a> {
@@ -137,8 +145,8 @@ pub fn record_at(image: &[u8], s: usize, n: usize, region: usize, place: usize) 
 
 /// The record that the numbers say, at the place that was asked for.
 fn record<'a>(image: &'a [u8], region: usize, place: usize, numbers: &ffi::EntryNumbers) -> Result<Record<'a>, Refusal> {
-    let value = part(image, numbers.place, numbers.length, numbers.kind)?;
-    Ok(Record { region, place, live: numbers.live == 1, key: numbers.key, value, checksum_right: numbers.sound == 1 })
+    let value = part(image, numbers.value_place, numbers.value_len, numbers.kind)?;
+    Ok(Record { region, place, live: numbers.live == 1, key: numbers.key, value, checksum_right: numbers.checksum_right == 1 })
 }
 
 /// The records of a chip in region and place order, up to the first bad place (R16.6 of docs/RULES.md). Refused by 1 alone.
@@ -152,7 +160,7 @@ fn record<'a>(image: &'a [u8], region: usize, place: usize, numbers: &ffi::Entry
 /// image::invalidate_key(&mut chip, 64, 4, 1)?;
 /// let mut seen = Vec::new();
 /// for record in image::records(&chip, 64, 4)? {
-///     let record = record.expect("no bad place");
+///     let record = record?; // a bad place ends it, as the refusal that a call meets there
 ///     seen.push((record.region, record.place, record.live, record.key, record.value.len()));
 /// }
 /// assert_eq!(seen, [(1, 0, false, 1, 3), (1, 18, true, 5, 0)]);
@@ -198,6 +206,12 @@ impl<'a> Iterator for Records<'a> {
             }
         }
         None
+    }
+
+    /// A record has 15 bytes or more, and a bad place is one item more.
+    fn size_hint(&self) -> (usize, Option<usize>) {
+        let regions = self.n.saturating_sub(self.at.region);
+        (0, Some(if regions == 0 { 0 } else { regions * (self.s / 15) + 1 }))
     }
 }
 

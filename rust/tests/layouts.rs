@@ -87,9 +87,9 @@ fn an_entry_and_its_place_lie_as_in_c() {
     lies!(EntryNumbers, kind, 0, 4);
     lies!(EntryNumbers, refusal, 4, 4);
     lies!(EntryNumbers, live, 8, 4);
-    lies!(EntryNumbers, sound, 12, 4);
+    lies!(EntryNumbers, checksum_right, 12, 4);
     lies!(EntryNumbers, key, 16, 8);
-    lies!(EntryNumbers, place, 24, 8);
-    lies!(EntryNumbers, length, 32, 8);
+    lies!(EntryNumbers, value_place, 24, 8);
+    lies!(EntryNumbers, value_len, 32, 8);
     lies!(EntryNumbers, next, 40, 16);
 }

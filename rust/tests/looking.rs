@@ -364,6 +364,6 @@ fn the_look_that_the_page_shows() {
     assert_eq!((page::first_gain(&chip), page::faults(&chip)), (Ok(Some(64)), Ok(vec![])));
     chip[11] ^= 1; // the value of key 4, in region 0
     chip[192] = 7;
-    let faults = ["key 4: wrong checksum", "region 3 is bad at place 0: a record of an unknown version"];
+    let faults = ["key 0000000000000004: wrong checksum", "region 3 is bad at place 0: a record of an unknown version"];
     assert_eq!(page::faults(&chip), Ok(faults.map(String::from).into()));
 }

@@ -13,7 +13,7 @@ pub fn faults(chip: &[u8]) -> Result<Vec<String>, Refusal> {
     let mut faults = Vec::new();
     for record in image::records(chip, 64, 4)? {
         match record {
-            Ok(record) if record.live && !record.checksum_right => faults.push(format!("key {}: wrong checksum", record.key)),
+            Ok(record) if record.live && !record.checksum_right => faults.push(format!("key {:016x}: wrong checksum", record.key)),
             Ok(_) => {}
             Err(bad) => faults.push(bad.to_string()),
         }
