@@ -11,6 +11,7 @@ fn main() {
     collect_blank();
     largest();
     start_anew();
+    lent();
 }
 
 // R15.1
@@ -160,4 +161,27 @@ fn show_blank(what: &[u8], part: &[u8]) {
     } else {
         io::write_all(1, b" not blank\n");
     }
+}
+
+// R16.1, R16.3: the value of R15.2's record where it lies, one of no bytes, and none.
+fn lent() {
+    let mut image = [255u8; 256];
+    report::answer(
+        b"16 append 1:",
+        store::append_key(&mut image, 64, 4, 1, &[7, 8, 9]),
+    );
+    report::answer(
+        b"16 append 5:",
+        store::append_key(&mut image, 64, 4, 5, b""),
+    );
+    lend(b"16 value of 1:", &image, 1);
+    lend(b"16 value of 5:", &image, 5);
+    lend(b"16 value of 3:", &image, 3);
+    image[75] = 0;
+    lend(b"16 value of 1, a byte altered:", &image, 1);
+}
+
+fn lend(what: &[u8], image: &[u8], key: u64) {
+    report::answer(what, lending::value_answer(image, 64, 4, key));
+    report::show(what, lending::value_of(image, 64, 4, key));
 }

@@ -22,7 +22,7 @@ use Rattle.region.proofs.Steps.{found-fits, found-at, end-short}
 use Rattle.refusals.specs.declared.Refusal.{Refusal}
 use Rattle.entries.specs.declared.Entry.{Entry}
 use Rattle.entries.specs.declared.Shown.{Shown}
-use Rattle.entries.specs.Entries.{judged, entryOf, entryIn, entryAt, staying, goingOn, shown, shownAt}
+use Rattle.entries.specs.Entries.{entryOf, entryIn, entryAt, staying, goingOn, shown, shownAt}
 
 -- In a region.
 

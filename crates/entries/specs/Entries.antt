@@ -1,6 +1,6 @@
 -- What stands at a place of a chip, for any image, S, N, region and place, and where to go on.
 use Prim.Native.Nat.{ℕ, _+_}
-use mathlib.Core.Bool.{cond}
+use mathlib.Core.Bool.{Bool, cond}
 use mathlib.Core.List.{List}
 use lib.Dec.{ltb}
 use Rattle.chip.specs.Geometry.{geometry, regionOf}
@@ -13,13 +13,13 @@ use Rattle.refusals.specs.declared.Refusal.{Refusal}
 use Rattle.entries.specs.declared.Entry.{Entry}
 use Rattle.entries.specs.declared.Shown.{Shown}
 
--- R16.4: a record of a region, and whether its checksum is right
-abbrev pub judged : List ℕ → Record → Entry
-judged region x = Entry.Stands x (checkSumFits (bytesIn region x))
+-- R3.6, R16.4: whether the checksum of a record of a region is right
+abbrev pub soundIn : List ℕ → Record → Bool
+soundIn region x = checkSumFits (bytesIn region x)
 
 -- R16.4: by what a walk of the region meets there: a record, and whether its checksum is right; that the walk ends; or why the place is bad
 abbrev pub entryOf : List ℕ → Met → Entry
-entryOf region (Met.Found x) = judged region x
+entryOf region (Met.Found x) = Entry.Stands x (soundIn region x)
 entryOf region (Met.Stop (End o)) = Entry.Ends
 entryOf region (Met.Stop (Bad f o)) = Entry.Bad f
 

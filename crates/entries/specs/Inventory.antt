@@ -5,11 +5,11 @@ use mathlib.Core.List.{List, [], _∷_, _++_}
 use Rattle.chip.specs.Geometry.{geometry, regionOf, numbers}
 use Rattle.format.specs.declared.Record.{Record}
 use Rattle.format.specs.declared.Fault.{Fault}
-use Rattle.format.specs.Layout.{checkSumFits}
 use Rattle.region.specs.declared.Stop.{Stop}
 use Rattle.region.specs.declared.Stop.the-variants.{End, Bad}
-use Rattle.region.specs.Walk.{records, ending, bytesIn}
+use Rattle.region.specs.Walk.{records, ending}
 use Rattle.refusals.specs.declared.Refusal.{Refusal}
+use Rattle.entries.specs.Entries.{soundIn}
 
 -- R16.6: a record of a chip: its region, what its header says, and whether its checksum is right
 pub record Item : Type 0 where
@@ -31,7 +31,7 @@ pub record Inventory : Type 0 where
 -- R16.6: the records of a region's view, as those of region r
 unfoldable pub itemsIn : ℕ → List ℕ → List Record → List Item
 itemsIn r region [] = []
-itemsIn r region (x ∷ xs) = record { region = r; rec = x; sound = checkSumFits (bytesIn region x) } ∷ itemsIn r region xs
+itemsIn r region (x ∷ xs) = record { region = r; rec = x; sound = soundIn region x } ∷ itemsIn r region xs
 
 -- R16.6: where a region's walk ended the regions behind it follow. Where it met a bad place nothing does.
 abbrev pub behind : ℕ → Stop → Inventory → Inventory

@@ -2,7 +2,7 @@
 ghost use mathlib.Core.Path.{_≡_};
 ghost use Prim.Native.Nat.{_+_, _≤_};
 ghost use lib.ListN.{length};
-ghost use Rattle.entries.specs.Entries.{judged, entryIn, staying, goingOn, shownAt};
+ghost use Rattle.entries.specs.Entries.{soundIn, entryIn, staying, goingOn, shownAt};
 use format::Fault;
 use format::Record;
 use refusals::Refusal;
@@ -36,17 +36,14 @@ pub struct Shown {
     pub next: Place,
 }
 
-// R16.4: a record of a region, and whether its checksum is right.
-fn judge(region: &[u8], rec: Record) -> Entry
+// R3.6, R16.4: whether the checksum of a record of a region is right.
+pub fn is_sound(region: &[u8], rec: Record) -> bool
     requires { ⌜ (15 ≤ rec .len) × (rec .at + rec .len ≤ length (now region)) ⌝ }
-    ensures { λ r. ⌜ r ≡ judged (now (region .entry)) rec ⌝ }
+    ensures { λ r. ⌜ r ≡ soundIn (now (region .entry)) rec ⌝ }
 {
     let a = rec.at;
     let e = a + rec.len;
-    Entry::Stands {
-        rec,
-        sound: format::check_sum_fits(&region[a..e]),
-    }
+    format::check_sum_fits(&region[a..e])
 }
 
 // R16.4: what a walk of the region meets at a place of it.
@@ -62,7 +59,10 @@ fn look_in(region: &[u8], at: usize) -> Entry
             Stop::End(_) => Entry::Ends,
             Stop::Bad(fault, _) => Entry::Bad(fault),
         },
-        Met::Found(rec) => judge(region, rec),
+        Met::Found(rec) => Entry::Stands {
+            rec,
+            sound: is_sound(region, rec),
+        },
     }
 }
 

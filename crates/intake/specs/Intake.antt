@@ -24,7 +24,7 @@ pub record Number : Type 0 where
   pub value : ℕ
   pub end : ℕ
 
--- R16.7: digits in front of these bytes, which begin at place o, behind digits that made up v
+-- R16.7: a number goes on as long as digits come. These bytes begin at place o; the digits before them made up v
 unfoldable pub numberIn : List ℕ → ℕ → ℕ → Number
 numberIn [] v o = record { value = v; end = o }
 numberIn (b ∷ bytes) v o = cond (isDigit b) (numberIn bytes (v * 10 + (b - 48)) (o + 1)) (record { value = v; end = o })

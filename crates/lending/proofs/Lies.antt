@@ -12,8 +12,7 @@ use types.Run.{OneOf}
 use denote.Enum.Declared.{tagOf}
 use Rattle.chip.specs.Geometry.{regionOf}
 use Rattle.format.specs.declared.Record.{Record}
-use Rattle.format.specs.Layout.{checkSumFits}
-use Rattle.region.specs.Walk.{bytesIn, valueLength}
+use Rattle.region.specs.Walk.{valueLength}
 use Rattle.refusals.specs.declared.Refusal.{Refusal}
 use Rattle.lookup.specs.declared.Hit.{Hit}
 use Rattle.lookup.specs.Turns.{hitOf}
@@ -21,14 +20,15 @@ use Rattle.lookup.proofs.Ends.{Held, held}
 use Rattle.plans.specs.declared.Answer.{Answer}
 use Rattle.plans.specs.declared.Answer.the-variants.{Complete, Written, Freed, Refused}
 use Rattle.plans.proofs.Answer.{the-type}
+use Rattle.entries.specs.Entries.{soundIn}
 use Rattle.lending.specs.declared.Located.{Located}
 use Rattle.lending.specs.Lending.{nowhere, locatedIn, locatedBy, locatedOf, companionOf, partAt}
 
 -- The test of the code is the definition's.
-pub wrong-sum : (region : List ℕ) (start : ℕ) (x : Record) → checkSumFits (bytesIn region x) ≡ false → nowhere Refusal.InvalidCheckSum ≡ locatedIn region start x
+pub wrong-sum : (region : List ℕ) (start : ℕ) (x : Record) → soundIn region x ≡ false → nowhere Refusal.InvalidCheckSum ≡ locatedIn region start x
 wrong-sum region start x e = rw e
 
-pub right-sum : (region : List ℕ) (start : ℕ) (x : Record) → checkSumFits (bytesIn region x) ≡ true
+pub right-sum : (region : List ℕ) (start : ℕ) (x : Record) → soundIn region x ≡ true
     → record { answer = Complete (x .len - 15); place = start + x .at + 11 } ≡ locatedIn region start x
 right-sum region start x e = rw e
 
@@ -38,7 +38,7 @@ pub record Lent (image : List ℕ) (s n key len : ℕ) : Type 0 where
   pub rec : Record
   pub hit : hitOf image s n key ≡ Hit.Live region rec
   pub held : Held image s n key region rec
-  pub right : checkSumFits (bytesIn (regionOf s image region) rec) ≡ true
+  pub right : soundIn (regionOf s image region) rec ≡ true
   pub len-is : valueLength rec ≡ len
   pub place-is : locatedOf image s n key .place ≡ region * s + rec .at + 11
   pub inside : locatedOf image s n key .place + len ≤ length image
@@ -51,7 +51,7 @@ pub lent : (image : List ℕ) (s n key len : ℕ) → companionOf image s n key 
 unfolding locatedOf
 lent image s n key len q = go (hitOf image s n key) refl q
   where
-    found : (r : ℕ) (x : Record) → hitOf image s n key ≡ Hit.Live r x → (b : Bool) → checkSumFits (bytesIn (regionOf s image r) x) ≡ b
+    found : (r : ℕ) (x : Record) → hitOf image s n key ≡ Hit.Live r x → (b : Bool) → soundIn (regionOf s image r) x ≡ b
         → cond b (record { answer = Complete (valueLength x); place = r * s + x .at + 11 }) (nowhere Refusal.InvalidCheckSum) .answer ≡ Complete len → Lent image s n key len
     found r x e false t q = absurd (refuses _ _ q)
     found r x e true t q =
@@ -72,7 +72,7 @@ lent image s n key len q = go (hitOf image s n key) refl q
 
     go : (hit : Hit) → hitOf image s n key ≡ hit → locatedBy s image hit .answer ≡ Complete len → Lent image s n key len
     go (Hit.Refused w) e q = absurd (refuses _ _ q)
-    go (Hit.Live r x) e q = found r x e (checkSumFits (bytesIn (regionOf s image r) x)) refl q
+    go (Hit.Live r x) e q = found r x e (soundIn (regionOf s image r) x) refl q
 
 -- what is no Complete lends nothing
 pub not-complete : (image : List ℕ) (place : ℕ) (answer : Answer) → OneOf (1 ∷ 2 ∷ 3 ∷ []) (tagOf the-type answer) → [] ≡ partAt image place answer
@@ -93,4 +93,4 @@ refused-place image s n key w q = go (hitOf image s n key) q
 
     go : (hit : Hit) → locatedBy s image hit .answer ≡ Refused w → locatedBy s image hit .place ≡ 0
     go (Hit.Refused v) q = refl
-    go (Hit.Live r x) q = found r x (checkSumFits (bytesIn (regionOf s image r) x)) q
+    go (Hit.Live r x) q = found r x (soundIn (regionOf s image r) x) q

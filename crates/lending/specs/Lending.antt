@@ -5,8 +5,9 @@ use mathlib.Core.List.{List, []}
 use lib.ListN.{take, drop}
 use Rattle.chip.specs.Geometry.{regionOf}
 use Rattle.format.specs.declared.Record.{Record}
-use Rattle.format.specs.Layout.{headerLength, checkSumFits}
-use Rattle.region.specs.Walk.{bytesIn, valueLength}
+use Rattle.format.specs.Layout.{headerLength}
+use Rattle.region.specs.Walk.{valueLength}
+use Rattle.entries.specs.Entries.{soundIn}
 use Rattle.refusals.specs.declared.Refusal.{Refusal}
 use Rattle.lookup.specs.declared.Hit.{Hit}
 use Rattle.lookup.specs.Turns.{hitOf}
@@ -22,7 +23,7 @@ nowhere w = record { answer = Refused w; place = 0 }
 -- R16.2: the value's first byte stands behind the record's header. By the record, its region, and the image place where that begins.
 abbrev pub locatedIn : List ℕ → ℕ → Record → Located
 locatedIn region start x =
-    cond (checkSumFits (bytesIn region x))
+    cond (soundIn region x)
     (record { answer = Complete (valueLength x); place = start + x .at + headerLength (x .version) })
     (nowhere Refusal.InvalidCheckSum)
 

@@ -30,14 +30,12 @@ fn locate(region: &[u8], start: usize, rec: Record) -> Located
     requires { ⌜ (15 ≤ rec .len) × (rec .at + rec .len ≤ length (now region)) × (start + length (now region) < 18446744073709551616) ⌝ }
     ensures { λ r. ⌜ r ≡ locatedIn (now (region .entry)) start rec ⌝ }
 {
-    let a = rec.at;
-    let e = a + rec.len;
-    if !format::check_sum_fits(&region[a..e]) {
+    if !entries::is_sound(region, rec) {
         return Located::nowhere(Refusal::InvalidCheckSum);
     }
     Located {
         answer: Answer::Complete(rec.len - Record::LEAST),
-        place: start + a + Record::HEADER_LENGTH,
+        place: start + rec.at + Record::HEADER_LENGTH,
     }
 }
 

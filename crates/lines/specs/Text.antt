@@ -31,7 +31,7 @@ field n end = decimal n ++ (end ∷ [])
 
 -- R16.8: "live " or "dead "
 abbrev pub state : Record → List ℕ
-state x = cond (live x) (108 ∷ 105 ∷ 118 ∷ 101 ∷ 32 ∷ []) (100 ∷ 101 ∷ 97 ∷ 100 ∷ 32 ∷ [])
+state x = cond (live x) (108 ∷ 105 ∷ 118 ∷ 101 ∷ space ∷ []) (100 ∷ 101 ∷ 97 ∷ 100 ∷ space ∷ [])
 
 -- R16.8: a key in 16 hexadecimal digits, the highest first, in lower case, and a space
 abbrev pub keyField : ℕ → List ℕ
@@ -43,7 +43,7 @@ lineOf r x = field r space ++ (field (x .at) space ++ (state x ++ (keyField (x .
 
 -- R16.9: the line of a bad place, which ends the list: "bad", region and place.
 unfoldable pub badLine : ℕ → ℕ → List ℕ
-badLine r o = (98 ∷ 97 ∷ 100 ∷ 32 ∷ []) ++ (field r space ++ field o lineFeed)
+badLine r o = (98 ∷ 97 ∷ 100 ∷ space ∷ []) ++ (field r space ++ field o lineFeed)
 
 -- R16.8: the first line: "region place state key bytes"
 abbrev pub headerLine : List ℕ

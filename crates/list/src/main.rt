@@ -1,11 +1,14 @@
 // Lists the records of a chip: standard input is its image behind a line with S and N, standard output the list. It only moves bytes.
 ghost use mathlib.Core.Path.{_≡_};
+ghost use Prim.Native.Nat.{_≤_};
 ghost use lib.ListN.{length};
+ghost use Rattle.io.specs.Counts.{Counts};
+ghost use Rattle.listing.specs.Listing.{mostRead, mostText};
 
 fn main() {
     let mut input = room();
     let mut text = page();
-    let len = io::read_full(0, &mut input);
+    let len = read_in(&mut input);
     show(&input[..len], &mut text);
 }
 
@@ -23,8 +26,18 @@ fn page() -> [u8; 180224]
     [0; 180224]
 }
 
-// The text in one piece.
-fn show(input: &[u8], text: &mut [u8]) {
+// A shorter buffer would cut off an input that is to be listed, and another would be listed in its place, or none.
+fn read_in(input: &mut [u8]) -> usize
+    requires { ⌜ mostRead ≤ length (now input) ⌝ }
+    ensures { λ r. ⌜ Counts r (now (input .exit)) ⌝ }
+{
+    io::read_full(0, input)
+}
+
+// The text in one piece. A shorter buffer would have none.
+fn show(input: &[u8], text: &mut [u8])
+    requires { ⌜ mostText ≤ length (now text) ⌝ }
+{
     let len = listing::list(input, text);
     io::write_all(1, &text[..len]);
 }

@@ -34,6 +34,10 @@ listingBy input (Intake.Chip s n start) = headerLine ++ textOf (inventory (drop 
 unfoldable pub listing : List ℕ → List ℕ
 listing input = listingBy input (intakeOf input)
 
+-- R16.7: so many bytes of an input are read at most: more than any has that is listed
+abbrev pub mostRead : ℕ
+mostRead = 65600
+
 -- R16.10: the longest text of any input has fewer bytes than this.
 abbrev pub mostText : ℕ
 mostText = 180224

@@ -109,7 +109,7 @@ pass-whole image s n k h = go (geometry image s n) refl k h
     go false g k h = refuses g k (omega arith)
 
 -- So many calls are enough on any chip.
-pub calls-few : (image : List ℕ) (s n : ℕ) → Fits image s n → callsFor (inventory image s n) n ≤ mostCalls s n
+calls-few : (image : List ℕ) (s n : ℕ) → Fits image s n → callsFor (inventory image s n) n ≤ mostCalls s n
 calls-few image s n f =
     let c : length (inventory image s n .items) ≡ length (left f 0 0) = ap (λ (v : Inventory). length (v .items)) (from-first f) in
     let i = few f (length (left f 0 0) + (n - 0) + 1) 0 0 (omega arith) (f .shape .n-least) (omega arith) in
@@ -117,3 +117,14 @@ calls-few image s n f =
     let p : n * (s / 15) ≡ (n - (0 + 1)) * (s / 15) + s / 15 = ap (λ q. q * (s / 15)) e ∙ suc-mul (n - (0 + 1)) (s / 15) in
     let q : n * (s / 15 + 1) ≡ n * (s / 15) + n * 1 = mul-add n (s / 15) 1 in
     omega (arith, c, i, p, q, mul-one n)
+
+-- So many calls are enough on any image: where it is no chip, the first one says so.
+pub calls-few-any : (image : List ℕ) (s n : ℕ) → callsFor (inventory image s n) n ≤ mostCalls s n
+calls-few-any image s n = go (geometry image s n) refl
+  where
+    go : (b : Bool) → geometry image s n ≡ b → callsFor (inventory image s n) n ≤ mostCalls s n
+    go true g = calls-few image s n (geometry-fits g)
+    go false g =
+        let c : length (inventory image s n .items) ≡ 0 = ap (λ (v : Inventory). length (v .items)) (all-refused image s n g) in
+        let q : n * (s / 15 + 1) ≡ n * (s / 15) + n * 1 = mul-add n (s / 15) 1 in
+        omega (arith, c, q, mul-one n)

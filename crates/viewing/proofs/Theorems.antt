@@ -8,7 +8,6 @@ use mathlib.Core.Logic.{_⊎_, inl, inr, ⊎-elim, _↔_}
 use mathlib.Core.List.{List, [], _++_, append-nil, List·Memᴰ}
 use lib.ListN.{length, getD, take, drop}
 use lib.Seq.{drop-length}
-use Rattle.chip.specs.Geometry.{Fits}
 use Rattle.format.specs.declared.Record.{Record}
 use Rattle.region.specs.declared.Met.{Met}
 use Rattle.region.specs.declared.Stop.{Stop}
@@ -119,9 +118,9 @@ only-the-header = Bytes.header-alone
 pub pass-gives-all : (image : List ℕ) (s n k : ℕ) → callsFor (inventory image s n) n ≤ k → pass k image s n ≡ whole (inventory image s n)
 pass-gives-all image s n k h = Passes.pass-whole image s n k h
 
--- R16.6: and that is never more than N times S / 15 + 1 calls, and one.
-pub pass-ends : (image : List ℕ) (s n : ℕ) → Fits image s n → callsFor (inventory image s n) n ≤ mostCalls s n
-pass-ends image s n f = Passes.calls-few image s n f
+-- R16.6: that is never more than N times S / 15 + 1 calls, and one: so on any image a pass of so many calls has come to its end.
+pub pass-ends : (image : List ℕ) (s n k : ℕ) → mostCalls s n ≤ k → pass k image s n ≡ whole (inventory image s n)
+pass-ends image s n k h = pass-gives-all image s n k (omega (arith, Passes.calls-few-any image s n, h))
 
 -- R16.6: of a well-formed chip it goes through to the last region,
 pub well-formed-goes-through : {s n : ℕ} {image : List ℕ} → WellFormed s n image → inventory image s n .last ≡ through

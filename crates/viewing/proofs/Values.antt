@@ -16,8 +16,7 @@ use Rattle.chip.proofs.Lists.{drop-take}
 use Rattle.format.specs.declared.Record.{Record}
 use Rattle.format.specs.declared.Fault.{Fault}
 use Rattle.format.specs.declared.Fault.the-variants.{UnsupportedVersion, CorruptData}
-use Rattle.format.specs.Layout.{checkSumFits}
-use Rattle.region.specs.Walk.{bytesIn, valueLength, valueIn}
+use Rattle.region.specs.Walk.{valueLength, valueIn}
 use Rattle.refusals.specs.declared.Refusal.{Refusal}
 use Rattle.refusals.specs.declared.Check.{Check}
 use Rattle.refusals.specs.Refusals.{valueOf as carried, refusalOf, firstRefusal}
@@ -30,6 +29,7 @@ use Rattle.plans.specs.declared.Answer.{Answer}
 use Rattle.plans.specs.declared.Answer.the-variants.{Complete, Written, Freed, Refused}
 use Rattle.values.specs.Values.{readAnswer, readBuffer}
 use Rattle.store.specs.Read.{Got, gotBy, getOf}
+use Rattle.entries.specs.Entries.{soundIn}
 use Rattle.lending.specs.declared.Located.{Located}
 use Rattle.lending.specs.Lending.{nowhere, locatedBy, locatedOf, companionOf, partAt, valueOf}
 use Rattle.lending.proofs.Lies.{Lent, lent}
@@ -81,9 +81,9 @@ got-answer image s n key buffer = go (hitOf image s n key) refl
     short : (r : ℕ) (x : Record) → x .len ≤ 4095 → (b : Bool) → ltb (length buffer) (valueLength x) ≡ b
         → (readAnswer (regionOf s image r) x (length buffer) ≡ locatedBy s image (Hit.Live r x) .answer) ⊎ ((len : ℕ) × ((readAnswer (regionOf s image r) x (length buffer) ≡ Refused (Refusal.BufferTooSmall len)) × (length buffer < len) × (len ≤ 4080)))
     short r x m true t = inr (valueLength x, (rw t, ltb-true _ _ t, omega arith))
-    short r x m false t = inl (rw t (by-sum (checkSumFits (bytesIn (regionOf s image r) x)) refl))
+    short r x m false t = inl (rw t (by-sum (soundIn (regionOf s image r) x) refl))
       where
-        by-sum : (b : Bool) → checkSumFits (bytesIn (regionOf s image r) x) ≡ b → cond (checkSumFits (bytesIn (regionOf s image r) x)) (Complete (valueLength x)) (Refused Refusal.InvalidCheckSum) ≡ locatedBy s image (Hit.Live r x) .answer
+        by-sum : (b : Bool) → soundIn (regionOf s image r) x ≡ b → cond (soundIn (regionOf s image r) x) (Complete (valueLength x)) (Refused Refusal.InvalidCheckSum) ≡ locatedBy s image (Hit.Live r x) .answer
         by-sum true e = rw e
         by-sum false e = rw e
 
@@ -105,9 +105,9 @@ not-odd-fault UnsupportedVersion = refl
 not-odd-fault CorruptData = refl
 
 not-odd-looked : (s : ℕ) (image : List ℕ) (looked : Looked) → odd (locatedBy s image (hitBy looked) .answer) ≡ []
-not-odd-looked s image (Looked.Live r x) = go (checkSumFits (bytesIn (regionOf s image r) x)) refl
+not-odd-looked s image (Looked.Live r x) = go (soundIn (regionOf s image r) x) refl
   where
-    go : (b : Bool) → checkSumFits (bytesIn (regionOf s image r) x) ≡ b → odd (locatedBy s image (Hit.Live r x) .answer) ≡ []
+    go : (b : Bool) → soundIn (regionOf s image r) x ≡ b → odd (locatedBy s image (Hit.Live r x) .answer) ≡ []
     go true e = rw e
     go false e = rw e
 not-odd-looked s image (Looked.Bad f p) = not-odd-fault f

@@ -3,13 +3,14 @@
 use mathlib.Core.Path.{_∙_, ap}
 use denote.Ref.{now}
 use Rattle.region.specs.declared.Met.{Met}
+use Rattle.entries.specs.declared.Entry.{Entry}
 use Rattle.entries.proofs.Looks.{past-ends, met-is, met-lies}
 use borrow.Author.Needs.{needs}
 use Rattle.entries.proofs.look_in.Statement.{statement}
 use Rattle.entries.proofs.look_in.Tie as tie
 use Rattle.entries.proofs.look_in.Reads as reads
 use Rattle.entries.proofs.look_in.Lts as lts
-use Rattle.entries.proofs.judge.Reads as judge-reads
+use Rattle.entries.proofs.is_sound.Reads as is-sound-reads
 use Rattle.region.proofs.look.Reads as look-reads
 
 -- src/lib.rt:56:9
@@ -37,8 +38,8 @@ enum-known-met-2 : tie.Need-enum-known-met-2
 enum-known-met-2 c = search needs
 
 -- src/lib.rt:64:28
-judge-requires : tie.Need-judge-requires
-judge-requires c κs =
+is-sound-requires : tie.Need-is-sound-requires
+is-sound-requires c κs =
     let d = c .before .before .before in
     let a = d .before .before .before .args in
     met-lies (now (a .region)) (a .at) _ _ (d .look .ensures) (c .before .met2 .given .1)
@@ -62,7 +63,7 @@ returns-4 : tie.Need-returns-4
 returns-4 c =
     let d = c .before .before in
     let a = d .before .before .before .before .before .args in
-    c .judge .ensures ∙ met-is (now (a .region)) (a .at) _ _ (d .before .before .look .ensures) (d .met2 .given .1)
+    ap (Entry.Stands (d .met2 .given .0 .0)) (c .is-sound .ensures) ∙ met-is (now (a .region)) (a .at) _ _ (d .before .before .look .ensures) (d .met2 .given .1)
 
 pub look-in-spec : {M : Type 1} → statement M
 look-in-spec =
@@ -74,7 +75,7 @@ look-in-spec =
     enum-told
     enum-known-stop
     enum-known-met-2
-    judge-requires
+    is-sound-requires
     returns-2
     returns-3
     returns-4)

@@ -25,10 +25,10 @@ use Rattle.entries.specs.Inventory.{itemsIn, inventoryOf, inventory}
 use Rattle.intake.specs.declared.Intake.{Intake}
 use Rattle.intake.specs.Intake.{mostImage, numberIn, numberAt, accepted, intakeOf}
 use Rattle.lines.specs.Text.{decimalIn, lineOf, headerLine, refusedLine}
-use Rattle.listing.specs.Listing.{linesOf, textOf, listingBy, listing, mostText, filled, textLength}
+use Rattle.listing.specs.Listing.{linesOf, textOf, listingBy, listing, mostRead, mostText, filled, textLength}
 use Rattle.listing.proofs.Theorems.{short-listing}
-use Rattle.shown.specs.Words.{firstLine, theLine}
-use Rattle.shown.proofs.Intake.{accepted-all, accepted-image, accepted-only, long-refused}
+use Rattle.listed.specs.Words.{firstLine, theLine}
+use Rattle.listed.proofs.Intake.{accepted-all, accepted-image, accepted-only, long-refused}
 
 -- R16.7, R16.8, R16.9: an image of N regions of S bytes, 65,536 at most, behind a first line that says S and N: the header line, a line for each
 -- record, and that of the first bad place.
@@ -54,9 +54,9 @@ refuses input none = go (intakeOf input) refl
         absurd (none s n (drop start input) (fits .shape) most (fits .size) is)
 
 -- R16.7: what the program reads of an input is enough: of a longer one nothing else would be written.
-pub reads-enough : (input : List ℕ) → listing (take 65600 input) ≡ listing input
+pub reads-enough : (input : List ℕ) → listing (take mostRead input) ≡ listing input
 unfolding listing
-reads-enough input = go (leb (length input) 65600) refl
+reads-enough input = go (leb (length input) mostRead) refl
   where
     long : 65600 < length input → listing (take 65600 input) ≡ listing input
     long l =

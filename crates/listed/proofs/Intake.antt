@@ -16,9 +16,9 @@ use Rattle.lines.specs.Text.{space, lineFeed, decimal}
 use Rattle.intake.specs.declared.Intake.{Intake}
 use Rattle.intake.specs.Intake.{mostImage, Number, numberAt, sizeIn, countIn, intakeOf}
 use Rattle.intake.proofs.Taken.{isImage, image-small, Accepted, accepted-facts, facts-accepted, taken}
-use Rattle.shown.specs.Words.{firstLine}
+use Rattle.listed.specs.Words.{firstLine}
 use Rattle.lines.proofs.Written.{decimal-length}
-use Rattle.shown.proofs.Decimal.{word-at, reads-back}
+use Rattle.listed.proofs.Decimal.{word-at, reads-back}
 
 line-image : (s n : ℕ) (image : List ℕ) → firstLine s n ++ image ≡ decimal s ++ (space ∷ (decimal n ++ (lineFeed ∷ image)))
 line-image s n image = simp append-assoc
@@ -131,8 +131,3 @@ long-refused input h = go (intakeOf input) refl
     go : (x : Intake) → intakeOf input ≡ x → x ≡ Intake.Refused
     go Intake.Refused e = refl
     go (Intake.Chip s n start) e = let l = line-short input e in absurd (omega arith)
-
--- R16.7: so nothing behind its first 65,600 bytes has to be read to know it.
-pub read-enough : (input : List ℕ) → 65552 < length input → intakeOf (take 65600 input) ≡ intakeOf input
-read-enough input h =
-    long-refused (take 65600 input) (simp length-take (omega arith)) ∙ sym (long-refused input h)

@@ -1,16 +1,15 @@
--- `entries::judge` meets its contract: the checksum is that of the record's bytes.
+-- `entries::is_sound` meets its contract: the checksum is that of the record's bytes.
 -- Assumes nothing.
 use native.Mathlib.Nat.{add-sub-cancel-left}
 use mathlib.Core.Path.{_≡_, _∙_, ap}
 use lib.ListN.{take, drop}
 use denote.Ref.{now}
 use Rattle.format.specs.Layout.{checkSumFits}
-use Rattle.entries.specs.declared.Entry.{Entry}
 use borrow.Author.Needs.{needs}
-use Rattle.entries.proofs.judge.Statement.{statement}
-use Rattle.entries.proofs.judge.Tie as tie
-use Rattle.entries.proofs.judge.Reads as reads
-use Rattle.entries.proofs.judge.Lts as lts
+use Rattle.entries.proofs.is_sound.Statement.{statement}
+use Rattle.entries.proofs.is_sound.Tie as tie
+use Rattle.entries.proofs.is_sound.Reads as reads
+use Rattle.entries.proofs.is_sound.Lts as lts
 use Rattle.format.proofs.check_sum_fits.Reads as check-sum-fits-reads
 
 -- src/lib.rt:44:13
@@ -37,10 +36,10 @@ check-sum-fits-requires c κs = search needs
 returns : tie.Need-returns
 returns c =
     let a = c .before .before .before .before .args in
-    ap (Entry.Stands (a .rec)) (c .check-sum-fits .ensures ∙ ap (λ k. checkSumFits (take k (drop (a .rec .at) (now (a .region))))) (add-sub-cancel-left (a .rec .at) (a .rec .len)))
+    c .check-sum-fits .ensures ∙ ap (λ k. checkSumFits (take k (drop (a .rec .at) (now (a .region))))) (add-sub-cancel-left (a .rec .at) (a .rec .len))
 
-pub judge-spec : {M : Type 1} → statement M
-judge-spec =
+pub is-sound-spec : {M : Type 1} → statement M
+is-sound-spec =
     tie.close
     (tie.spec
     add-e
