@@ -269,7 +269,7 @@ stilefray_found stilefray_find_value(const uint8_t *image, size_t image_len, siz
  *     for (;;) {
  *         e = stilefray_record_at(image, image_len, s, n, at.region, at.place);
  *         if (e.kind != STILEFRAY_ENTRY_RECORD && e.kind != STILEFRAY_ENTRY_END) break;
- *         if (e.kind == STILEFRAY_ENTRY_RECORD) look(at, e.live, e.key, image + e.value_place, e.value_len);
+ *         if (e.kind == STILEFRAY_ENTRY_RECORD) look(at, e.live, e.checksum_right, e.key, image + e.value_place, e.value_len);
  *         at = e.next;
  *     }
  *

@@ -82,7 +82,8 @@ pub struct BadPlace {
     pub region: usize,
     /// The place, counted from the region's first byte.
     pub place: usize,
-    /// What a call that meets the place is refused by: UnsupportedVersion or CorruptData.
+    /// What a call that meets the place is refused by: UnsupportedVersion or CorruptData. From an archive that knows more than this crate it
+    /// may be `UnknownKind`, and what stands there is then not known.
     pub refusal: Refusal,
 }
 
