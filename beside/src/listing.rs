@@ -217,7 +217,7 @@ fn listing(seed: u64, all: usize) -> Result<(), String> {
     Ok(())
 }
 
-/// The arguments are those of scripts/beside: `--long`, `--seed N`. `chip` alone
+/// The arguments are those of scripts/listings: `--long`, `--seed N`. `chip` alone
 /// writes the bytes of docs/chip.img.
 fn main() {
     let arguments: Vec<String> = std::env::args().skip(1).collect();
