@@ -1,5 +1,8 @@
 // A day on a grading table: the afternoon's correction spills into the next region, and a lookup finds it.
 // All that is said of the store is what it answers and what the image then holds.
+
+#![tactic(auto)]
+
 mod corrections;
 mod day;
 mod flash;

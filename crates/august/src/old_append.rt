@@ -7,7 +7,7 @@ use format::Record;
 use region::{Event, Want};
 
 // What one region says.
-#[derive(Drop)]
+#[derive(Clone, Copy)]
 pub enum Turn {
     Exists,
     Room,
@@ -15,7 +15,7 @@ pub enum Turn {
 }
 
 // How an append ends, and in which region.
-#[derive(Drop)]
+#[derive(Clone, Copy)]
 pub enum Put {
     Exists(usize),
     Written(usize),

@@ -7,7 +7,7 @@ use format::Record;
 use region::{Event, Want};
 
 // Why a lookup ends at a region.
-#[derive(Drop)]
+#[derive(Clone, Copy)]
 pub enum Why {
     Full,
     Blank,
@@ -15,7 +15,7 @@ pub enum Why {
 }
 
 // What one region says.
-#[derive(Drop)]
+#[derive(Clone, Copy)]
 pub enum Turn {
     // With the value's length.
     Found(usize),
@@ -24,7 +24,7 @@ pub enum Turn {
 }
 
 // How a lookup ends, and in which region.
-#[derive(Drop)]
+#[derive(Clone, Copy)]
 pub enum Got {
     Complete(usize, usize),
     NotFound(usize, Why),

@@ -1,5 +1,8 @@
 // The worked examples of R15 on the real code: a line for each step, with what the store answers and the bytes that it leaves.
 // S is 64 and N is 4, but for R15.11, and the image is blank at first.
+
+#![tactic(auto)]
+
 fn main() {
     probes();
     append_and_get();

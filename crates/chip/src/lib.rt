@@ -1,4 +1,7 @@
 // What the flash chip does to its bytes: a write clears bits, an erase sets them all.
+
+#![tactic(auto)]
+
 mod geometry;
 
 ghost use Rattle.std.specs.Prelude.{◌≡◌, ◌+◌, ◌≤◌, length, replicate};

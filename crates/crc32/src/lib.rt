@@ -1,4 +1,7 @@
 // The checksum of a record, CRC-32/CKSUM, a byte at a time by a table of 256 words.
+
+#![tactic(auto)]
+
 ghost use Rattle.std.specs.Prelude.{◌≡◌, ◌<◌, ◌++◌};
 ghost use Rattle.crc32.specs.Crc.{Table, entry, feed, run, finish, checksum};
 

@@ -1,4 +1,7 @@
 // The checksum of published and worked vectors, a line each: a name, and the sum in hexadecimal.
+
+#![tactic(auto)]
+
 ghost use Rattle.std.specs.Prelude.{◌≡◌, ℕ, ◌<◌, get_or};
 
 fn main() {

@@ -1,4 +1,7 @@
 // What stands at a place of a chip, one place after the other: the records as a walk meets them, for whoever looks into an image.
+
+#![tactic(auto)]
+
 ghost use Rattle.std.specs.Prelude.{◌≡◌, ◌+◌, ◌≤◌, length};
 ghost use Rattle.entries.specs.Entries.{sound_in, entry_in, staying, going_on, shown_at};
 
@@ -8,14 +11,14 @@ use region::{Met, Stop};
 
 // R16.4: a place of a chip: a region, and a place in it. C and Rust see it as it is.
 #[repr(C)]
-#[derive(Drop)]
+#[derive(Clone, Copy)]
 pub struct Place {
     pub region: usize,
     pub at: usize,
 }
 
 // R16.4: what stands at a place of a chip.
-#[derive(Drop)]
+#[derive(Clone, Copy)]
 pub enum Entry {
     // A record, and whether its checksum is right.
     Stands { rec: Record, sound: bool },
@@ -30,7 +33,7 @@ pub enum Entry {
 }
 
 // R16.4, R16.5: what stands at a place, and where to go on.
-#[derive(Drop)]
+#[derive(Clone, Copy)]
 pub struct Shown {
     pub entry: Entry,
     pub next: Place,

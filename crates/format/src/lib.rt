@@ -1,4 +1,7 @@
 // The record format: a record as its header says it, its bytes, what is wrong with a place that has none, and what is written to make one dead.
+
+#![tactic(auto)]
+
 mod layout;
 
 ghost use Rattle.std.specs.Prelude.{◌≡◌};
@@ -7,7 +10,7 @@ ghost use Rattle.format.specs.Layout.{live};
 pub use layout::{check_sum_fits, dead_header, new_header, sum_bytes};
 
 // R3.1: a record as its header says it: the place of its first byte in the region (R4.6), its whole length, its version, its flags and its key.
-#[derive(Drop)]
+#[derive(Clone, Copy)]
 pub struct Record {
     pub at: usize,
     pub len: usize,
@@ -44,14 +47,14 @@ impl Record {
 }
 
 // R4.4, R4.5: why a place is bad.
-#[derive(Drop)]
+#[derive(Clone, Copy)]
 pub enum Fault {
     UnsupportedVersion,
     CorruptData,
 }
 
 // R3.7: how a record is made dead: its top flag is cleared, and to zeroise it every byte of value and checksum too.
-#[derive(Drop)]
+#[derive(Clone, Copy)]
 pub enum Removal {
     Invalidate,
     Zeroise,

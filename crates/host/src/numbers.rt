@@ -3,7 +3,7 @@ use plans::Answer;
 use refusals::Refusal;
 use running::Request;
 
-#[derive(Drop)]
+#[derive(Clone, Copy)]
 pub struct Numbers {
     pub kind: usize,
     pub a: usize,

@@ -8,7 +8,7 @@ use steps::Stepped;
 const MANY: usize = 64;
 
 // A host is not ready so many times before each service, and the service of this number fails, counted from 0.
-#[derive(Drop)]
+#[derive(Clone, Copy)]
 pub struct Host {
     pub waits: usize,
     pub fails: usize,

@@ -1,10 +1,13 @@
 // The program's input: S and N in its first line, and the image behind it.
+
+#![tactic(auto)]
+
 ghost use Rattle.std.specs.Prelude.{◌&&◌, ◌≡◌, ◌+◌, ◌*◌, min, leb, get_or, drop};
 ghost use Rattle.chip.specs.Geometry.{geometry};
 ghost use Rattle.intake.specs.Intake.{most_image, is_digit, leads, number_in, number_at, intake_of};
 
 // R16.7: what an input is: an image of N regions of S bytes, which begins at a place of it, or nothing that is listed.
-#[derive(Drop)]
+#[derive(Clone, Copy)]
 pub enum Intake {
     Refused,
     Chip { s: usize, n: usize, start: usize },
@@ -14,7 +17,7 @@ pub enum Intake {
 const MOST_IMAGE: usize = 65536;
 
 // A number as it was read, and the place behind its last digit.
-#[derive(Drop)]
+#[derive(Clone, Copy)]
 struct Read {
     value: usize,
     end: usize,

@@ -1,4 +1,7 @@
 // A key's value where it lies: a part of the caller's image, and nothing copied.
+
+#![tactic(auto)]
+
 ghost use Rattle.std.specs.Prelude.{◌≡◌, ◌+◌, ◌≤◌, ◌<◌, length};
 ghost use Rattle.lending.specs.Lending.{nowhere, located_in, located_of, companion_of, value_of};
 
@@ -8,7 +11,7 @@ use plans::Answer;
 use refusals::Refusal;
 
 // R16.1, R16.2: what is answered, and the image place of the value's first byte.
-#[derive(Drop)]
+#[derive(Clone, Copy)]
 pub struct Located {
     pub answer: Answer,
     pub place: usize,

@@ -1,4 +1,7 @@
 // The lines that a chip's records are listed in, put into a buffer one behind the other.
+
+#![tactic(auto)]
+
 ghost use Rattle.std.specs.Prelude.{[], ◌∷◌, ◌++◌, ◌≡◌, ◌+◌, ◌≤◌, ◌<◌, length};
 ghost use Rattle.std.proofs.lemmas.List.Edits.{sets};
 ghost use Rattle.lines.specs.Text.{field, state, key_field, line_of, bad_line, header_line, refused_line};

@@ -1,4 +1,7 @@
 // Lists the records of a chip: standard input is its image behind a line with S and N, standard output the list. It only moves bytes.
+
+#![tactic(auto)]
+
 ghost use Rattle.std.specs.Prelude.{◌≡◌, ◌≤◌, length};
 ghost use Rattle.io.specs.Counts.{IsPrefixLen};
 ghost use Rattle.listing.specs.Listing.{most_read, most_text};

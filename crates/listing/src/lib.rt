@@ -1,4 +1,7 @@
 // All that the program writes for an input, put into a buffer line by line.
+
+#![tactic(auto)]
+
 ghost use Rattle.std.specs.Prelude.{◌≡◌, ◌+◌, ◌*◌, ◌≤◌, length};
 ghost use Rattle.std.proofs.lemmas.List.Edits.{sets};
 ghost use Rattle.chip.specs.Geometry.{Fits};

@@ -1,4 +1,7 @@
 // Where a key is: the regions of an image in the key's probe order, up to the one that decides.
+
+#![tactic(auto)]
+
 mod gather;
 mod turns;
 
@@ -11,14 +14,14 @@ use refusals::Refusal;
 pub use turns::{find_key, look_up, take_turn};
 
 // R5.4: what a lookup gathers on its way: append needs room for a record of so many bytes, nothing else needs any.
-#[derive(Drop)]
+#[derive(Clone, Copy)]
 pub enum Need {
     Nothing,
     Room(usize),
 }
 
 // R5.4: the first region with room, the place there, and whether the record's place is blank.
-#[derive(Drop)]
+#[derive(Clone, Copy)]
 pub enum Room {
     Nowhere,
     At {
@@ -29,7 +32,7 @@ pub enum Room {
 }
 
 // R5.4: what a lookup has gathered from the regions seen so far.
-#[derive(Drop)]
+#[derive(Clone, Copy)]
 pub struct Seen {
     pub room: Room,
 }
@@ -58,7 +61,7 @@ impl Seen {
 }
 
 // R5.1: how a lookup ends: a live record of the key and its region, a bad place in the image, or none in all regions.
-#[derive(Drop)]
+#[derive(Clone, Copy)]
 pub enum Looked {
     Live { region: usize, rec: Record },
     Bad { fault: Fault, place: usize },
@@ -89,14 +92,14 @@ impl Looked {
 }
 
 // R5.2, R5.5, R5.6: what get and the removals look for: the key's live record and its region, or the refusal where there is none.
-#[derive(Drop)]
+#[derive(Clone, Copy)]
 pub enum Hit {
     Live { region: usize, rec: Record },
     Refused(Refusal),
 }
 
 // R5.1: one more region seen: the lookup goes on with what it has gathered, or it ends.
-#[derive(Drop)]
+#[derive(Clone, Copy)]
 pub enum Turn {
     More(Seen),
     Stop(Looked),

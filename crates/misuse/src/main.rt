@@ -1,4 +1,7 @@
 // Calls that a host should not make, and starts that are refused: what is said, and that nothing is altered.
+
+#![tactic(auto)]
+
 use host::Host;
 use plans::Answer;
 use running::{Op, Reply, Start};

@@ -11,7 +11,7 @@ use plans::{Aim, Answer, Edit, Edits, Lent, Plan, Then};
 use running::{Op, Start};
 
 // R12.4: the numbers of the edit that is left.
-#[derive(Drop)]
+#[derive(Clone, Copy)]
 pub struct Slot {
     pub edit: u32,
     pub version: u8,
@@ -23,7 +23,7 @@ pub struct Slot {
 }
 
 // R12.4: the numbers of what comes behind it.
-#[derive(Drop)]
+#[derive(Clone, Copy)]
 pub struct Next {
     pub next: u32,
     pub aim: u32,

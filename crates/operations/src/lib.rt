@@ -1,4 +1,7 @@
 // A running operation as C and Rust see it, a plain struct of numbers, and what the numbers stand for.
+
+#![tactic(auto)]
+
 mod unpacks;
 
 ghost use Rattle.std.specs.Prelude.{◌≡◌};
@@ -13,7 +16,7 @@ pub use unpacks::{KnownReply, known_reply, read_as, stands};
 // `next`: what comes behind the edit. `aim`, `tag`: what a lookup is for, and which room it has gathered, with `b` and `c` for where.
 // `a`: how far a lookup or collect is, or what the answer carries. `b` of collect: how many of the regions before `a` were erased or are about to be.
 #[repr(C)]
-#[derive(Drop)]
+#[derive(Clone, Copy)]
 pub struct COperation {
     pub layout: u32,
     pub fresh: u32,

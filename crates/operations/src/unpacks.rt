@@ -9,7 +9,7 @@ use plans::{Aim, Answer, Edit, Edits, Lent, Plan, Then};
 use running::{Op, Reply};
 
 // R12.3: the reply that a number stands for, where it stands for any.
-#[derive(Drop)]
+#[derive(Clone, Copy)]
 pub enum KnownReply {
     Known(Reply),
     Unknown,

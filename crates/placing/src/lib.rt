@@ -1,4 +1,7 @@
 // A record's bytes, and what makes one dead, at their place: laid into a region, or written to the chip.
+
+#![tactic(auto)]
+
 ghost use Rattle.std.specs.Prelude.{◌≡◌, ◌+◌, ◌≤◌, length};
 ghost use Rattle.std.proofs.lemmas.List.Edits.{sets};
 ghost use Rattle.chip.specs.Chip.{written};
@@ -11,7 +14,7 @@ pub fn lay(region: &mut [u8], at: usize, new: &[u8])
     requires { at + length new.now ≤ length region.old }
     ensures { region.new ≡ sets region.old at new.now }
 {
-    bytes::copy(new, &mut region[at..]);
+    region[at..at + new.len()].copy_from_slice(new);
 }
 
 // A live record of the key and the value, laid into a region. The sum goes over header and value where they lie, and copies neither.

@@ -1,4 +1,7 @@
 // What an operation has to do, as data: a plan is a list of edits and what follows them. Both forms of the store carry out the same plans.
+
+#![tactic(auto)]
+
 mod answers;
 mod fits;
 mod writes;
@@ -14,7 +17,7 @@ use refusals::Refusal;
 pub use writes::{ends_with, first_of, refuse, rest_of};
 
 // R7.1: what a call answers.
-#[derive(Drop)]
+#[derive(Clone, Copy)]
 pub enum Answer {
     // With the value's length, 0 from initialise.
     Complete(usize),
@@ -25,7 +28,7 @@ pub enum Answer {
 }
 
 // R5.1: what a lookup is for: get (R5.2), append (R5.3), initialise's too, a removal (R5.5, R5.6), or the get of initialise (R5.9).
-#[derive(Drop)]
+#[derive(Clone, Copy)]
 pub enum Aim {
     Get,
     Append,
@@ -34,7 +37,7 @@ pub enum Aim {
 }
 
 // R8.2, R8.3: what the host lends beside the region buffer, with the length that was named at the start: append's value, get's buffer.
-#[derive(Drop)]
+#[derive(Clone, Copy)]
 pub enum Lent {
     Nothing,
     Value(usize),
@@ -66,7 +69,7 @@ impl Lent {
 }
 
 // R1.3, R1.4: one erase or one write, which is one service (R8.4).
-#[derive(Drop)]
+#[derive(Clone, Copy)]
 pub enum Edit {
     // R5.4: the record of the call's key and value is written at a place of a region.
     Lay {
@@ -85,7 +88,7 @@ pub enum Edit {
 }
 
 // R8.10: what is still to be written or erased, one after the other (R9.7). Erases: the regions from one up to another.
-#[derive(Drop)]
+#[derive(Clone, Copy)]
 pub enum Edits {
     Nil,
     One(Edit),
@@ -95,14 +98,14 @@ pub enum Edits {
 }
 
 // R9.7: the first edit that is left, if any.
-#[derive(Drop)]
+#[derive(Clone, Copy)]
 pub enum First {
     Nothing,
     Do(Edit),
 }
 
 // R8.10: what comes behind a plan's edits.
-#[derive(Drop)]
+#[derive(Clone, Copy)]
 pub enum Then {
     Ends(Answer),
     // R5.1: the i-th region of the key's probe order is looked at, with so much gathered before it.
@@ -125,7 +128,7 @@ pub enum Then {
 }
 
 // R8.10: what an operation has left to do: what it still writes or erases, and what comes behind that.
-#[derive(Drop)]
+#[derive(Clone, Copy)]
 pub struct Plan {
     pub edits: Edits,
     pub next: Then,

@@ -1,4 +1,7 @@
 // Keys, home regions and the order in which the regions of a key are looked at.
+
+#![tactic(auto)]
+
 ghost use Rattle.std.specs.Prelude.{◌≡◌, ◌<◌, get_or};
 ghost use Rattle.probe.specs.Probe.{allowed_key, home, probe};
 

@@ -5,14 +5,14 @@ use crate::line::Line;
 use replies::CAnswer;
 
 // The chip's geometry.
-#[derive(Drop)]
+#[derive(Clone, Copy)]
 pub struct Chip {
     pub s: usize,
     pub n: usize,
 }
 
 // What a call left: its answer, and the checksum of get's buffer, 0 where there is none.
-#[derive(Drop)]
+#[derive(Clone, Copy)]
 struct Left {
     answer: CAnswer,
     buffer: u32,

@@ -1,7 +1,7 @@
 // How many calls of each kind were replayed.
 use crate::line::Line;
 
-#[derive(Drop)]
+#[derive(Clone, Copy)]
 pub struct Counts {
     pub chips: usize,
     pub gets: usize,

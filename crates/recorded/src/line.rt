@@ -1,7 +1,7 @@
 // A line of the list: eight numbers.
 
 // A call and what the crate made of it.
-#[derive(Drop)]
+#[derive(Clone, Copy)]
 pub struct Line {
     pub op: u64,
     pub key: u64,
@@ -20,7 +20,7 @@ pub struct Line {
 }
 
 // A number and where it ends.
-#[derive(Drop)]
+#[derive(Clone, Copy)]
 struct Digits {
     value: u64,
     end: usize,

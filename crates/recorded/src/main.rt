@@ -1,5 +1,8 @@
 // The crate's own answers, replayed on the store: calls that tickv 2.0.0 answered on chips in memory, as scripts/record wrote them down.
 // Each line of the input is a call and what the crate made of it; the store has to do the same.
+
+#![tactic(auto)]
+
 mod chips;
 mod counts;
 mod line;

@@ -1,11 +1,14 @@
 // Why the store says no, and what is refused before anything is read.
+
+#![tactic(auto)]
+
 ghost use Rattle.std.specs.Prelude.{◌≡◌, get_or};
 ghost use Rattle.refusals.specs.Refusals.{number, value_of, refusal_of, refusal_under, first_refusal};
 
 use format::{Fault, Record};
 
 // R6.1 to R6.12: the refusals, in the order of their numbers, 1 to 12.
-#[derive(Drop)]
+#[derive(Clone, Copy)]
 pub enum Refusal {
     BadGeometry,
     BadKey,
@@ -75,7 +78,7 @@ impl Refusal {
 }
 
 // R7.2: whether geometry, key and size are allowed; else the first of refusals 1, 2 and 3.
-#[derive(Drop)]
+#[derive(Clone, Copy)]
 pub enum Check {
     Fine,
     Refused(Refusal),

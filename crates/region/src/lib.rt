@@ -1,4 +1,7 @@
 // One region of the flash: what its bytes say.
+
+#![tactic(auto)]
+
 mod walk;
 
 ghost use Rattle.std.specs.Prelude.{◌≡◌};
@@ -8,7 +11,7 @@ use format::{Fault, Record};
 pub use walk::{find, look};
 
 // R4.7: how and where the walk of a region stopped: at its end, or at a bad place.
-#[derive(Drop)]
+#[derive(Clone, Copy)]
 pub enum Stop {
     End(usize),
     Bad(Fault, usize),
@@ -27,14 +30,14 @@ impl Stop {
 }
 
 // R4.1: what a walk meets at one place of a region: a record (R4.6), or where it stops (R4.2 to R4.5).
-#[derive(Drop)]
+#[derive(Clone, Copy)]
 pub enum Met {
     Found(Record),
     Stop(Stop),
 }
 
 // R4.8: what is looked for: a live record of the key, or any live record.
-#[derive(Drop)]
+#[derive(Clone, Copy)]
 pub enum Want {
     Key(u64),
     Any,
@@ -52,7 +55,7 @@ impl Want {
 }
 
 // R4.8: what decides a walk: a live record that is looked for, a bad place, or the end.
-#[derive(Drop)]
+#[derive(Clone, Copy)]
 pub enum Event {
     Live(Record),
     Bad(Fault, usize),

@@ -1,4 +1,7 @@
 // What the programs write and compare: answers with their names and numbers, and bytes.
+
+#![tactic(auto)]
+
 use plans::Answer;
 use refusals::Refusal;
 

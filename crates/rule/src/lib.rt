@@ -1,4 +1,7 @@
 // The written rule, and the calls that it allows.
+
+#![tactic(auto)]
+
 ghost use Rattle.std.specs.Prelude.{◌≡◌};
 ghost use Rattle.running.specs.Waits.{wait_of};
 ghost use Rattle.running.specs.Ruled.{fresh_fits};

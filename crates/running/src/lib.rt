@@ -1,4 +1,7 @@
 // A running operation: plain data that says what is left to do, how it is started, and what it waits for.
+
+#![tactic(auto)]
+
 mod starts;
 mod waits;
 
@@ -15,7 +18,7 @@ pub use waits::{request_of, wait_of};
 
 // R8.1: a running operation, plain data, on a chip of n regions of s bytes: its key, what is lent to it, and what is left of its plan. A fresh one
 // has asked for nothing yet.
-#[derive(Drop)]
+#[derive(Clone, Copy)]
 pub struct Op {
     pub s: usize,
     pub n: usize,
@@ -57,14 +60,14 @@ impl Op {
 }
 
 // R8.2: a start hands out a fresh operation, or refuses at once and runs nothing.
-#[derive(Drop)]
+#[derive(Clone, Copy)]
 pub enum Start {
     Runs(Op),
     Refused(Refusal),
 }
 
 // R8.5: what the host says at a step: "begin" at the first, then of the service that was asked for last.
-#[derive(Drop)]
+#[derive(Clone, Copy)]
 pub enum Reply {
     Begin,
     Done,
@@ -73,7 +76,7 @@ pub enum Reply {
 }
 
 // R8.4, R8.5: what an operation waits for: the first step, a region that is read, an edit; or nothing more.
-#[derive(Drop)]
+#[derive(Clone, Copy)]
 pub enum Wait {
     Begin,
     Read(usize),
@@ -83,7 +86,7 @@ pub enum Wait {
 
 // R8.4: what a step asks of the host: to read a region into the buffer, to write the buffer's bytes from a place up to another at an image place,
 // or to erase a region; or its answer.
-#[derive(Drop)]
+#[derive(Clone, Copy)]
 pub enum Request {
     Read {
         region: usize,

@@ -3,7 +3,7 @@ use plans::Answer;
 use running::Start;
 
 // A call with its key.
-#[derive(Drop)]
+#[derive(Clone, Copy)]
 pub enum Call {
     Get(u64),
     Append(u64),

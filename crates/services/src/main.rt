@@ -1,5 +1,8 @@
 // The store one service at a time, on a flash that lies in memory: 4 regions of 64 bytes.
 // A line for each service that a step asks for and for each answer, held against the same call made in one.
+
+#![tactic(auto)]
+
 mod call;
 mod forms;
 

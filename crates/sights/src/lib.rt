@@ -1,4 +1,7 @@
 // What is found in a chip as C and Rust see it: plain structs of numbers.
+
+#![tactic(auto)]
+
 ghost use Rattle.std.specs.Prelude.{◌≡◌, ◌+◌, ◌≤◌, ◌<◌};
 ghost use Rattle.sights.specs.Sights.{flag, found_numbers, empty_numbers, record_numbers};
 
@@ -9,7 +12,7 @@ use replies::CAnswer;
 
 // R16.11: where a key's value is: the answer, and the image place of the value's first byte, 0 where it is refused.
 #[repr(C)]
-#[derive(Drop)]
+#[derive(Clone, Copy)]
 pub struct CFound {
     pub answer: CAnswer,
     pub place: usize,
@@ -19,7 +22,7 @@ pub struct CFound {
 // `refusal` the refusal's number of 0 and 3. Of a record: `live` and `sound`, whether its checksum is right, 1 or 0; its key; the image place of
 // its value's first byte, `place`, and the value's `length`. `next`: where to go on. What a kind does not use is 0.
 #[repr(C)]
-#[derive(Drop)]
+#[derive(Clone, Copy)]
 pub struct CEntry {
     pub kind: u32,
     pub refusal: u32,

@@ -1,5 +1,8 @@
 // The store, one flash service at a time: each step of a running operation answers or asks for one service.
 // A step never sees the image: it is lent a region buffer, and the value or get's buffer where there is one.
+
+#![tactic(auto)]
+
 ghost use Rattle.std.specs.Prelude.{◌≡◌};
 ghost use Rattle.steps.specs.Step.{stepped, region_after, buffer_after};
 
@@ -8,7 +11,7 @@ use refusals::Refusal;
 use running::{Op, Reply, Request};
 
 // R8.3: what a step hands back: the operation as it then stands, and a request or the answer.
-#[derive(Drop)]
+#[derive(Clone, Copy)]
 pub struct Stepped {
     pub op: Op,
     pub request: Request,

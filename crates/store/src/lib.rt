@@ -1,5 +1,8 @@
 // The store in one call, on an image that lies in memory: get, append, invalidate, zeroise, collect and initialise.
 // None of the six asks anything of its caller: what is not allowed is refused.
+
+#![tactic(auto)]
+
 mod collect;
 mod read;
 mod write;

@@ -1,5 +1,8 @@
 // The value of a record: what get answers by it, and its bytes to a buffer. Both forms of the store read so; they have the facts at hand that are
 // asked for here.
+
+#![tactic(auto)]
+
 ghost use Rattle.std.specs.Prelude.{◌≡◌, ◌+◌, ◌≤◌, length};
 ghost use Rattle.values.specs.Values.{read_answer, read_buffer};
 
@@ -34,8 +37,8 @@ pub fn copy_value(region: &[u8], rec: Record, buffer: &mut [u8])
     let len = rec.len - Record::LEAST;
     let most = buffer.len();
     if most < len {
-        bytes::copy(&region[from..from + most], buffer);
+        buffer.copy_from_slice(&region[from..from + most]);
         return;
     }
-    bytes::copy(&region[from..from + len], buffer);
+    buffer[..len].copy_from_slice(&region[from..from + len]);
 }
