@@ -9,7 +9,7 @@ use Rattle.chip.specs.Chip.{erased}
 use Rattle.chip.specs.Geometry.{Shape}
 use Rattle.plans.specs.declared.Answer.{Answer}
 use Rattle.plans.specs.declared.Answer.TheVariants.{Written}
-use Rattle.plans.specs.Answers.{refusal, startsAnew}
+use Rattle.plans.specs.Answers.{refusal, starts_anew}
 use Rattle.store.specs.Write.{Done, append_of, initialise_of}
 use Rattle.store.specs.Read.{get_of}
 use Rattle.store.specs.Call.{get}
@@ -26,9 +26,9 @@ get_not_written image s n key buffer h = go (succeeds image s n (get key buffer)
 
 pub initialise_appends : (image : List ℕ) (s n key : ℕ) → (initialise_of image s n key).answer ≡ Written → initialise_of image s n key ≡ append_of (erased (n * s)) s n key []
 unfolding initialise_of
-initialise_appends image s n key h = go (startsAnew (get_of image s n key []).answer) refl
+initialise_appends image s n key h = go (starts_anew (get_of image s n key []).answer) refl
   where
-    go : (b : Bool) → startsAnew (get_of image s n key []).answer ≡ b → initialise_of image s n key ≡ append_of (erased (n * s)) s n key []
+    go : (b : Bool) → starts_anew (get_of image s n key []).answer ≡ b → initialise_of image s n key ≡ append_of (erased (n * s)) s n key []
     go true e = rw (e, initialise_of)
     go false e =
         let same : initialise_of image s n key ≡ record { answer = (get_of image s n key []).answer; image = image } = rw (e, initialise_of) in

@@ -29,13 +29,13 @@ use Rattle.bindings.specs.WellFormed.{Live, WellFormed, Bound}
 use Rattle.bindings.proofs.Lookups.{never_bad, found_live, is_found}
 
 -- nothing is refused before reading
-pub fine-first : (image : List ℕ) (s n key len : ℕ) → Fits image s n → allowed_key key ≡ true → len ≤ 4079 → first_refusal image s n key len ≡ Check.Fine
+pub fine_first : (image : List ℕ) (s n key len : ℕ) → Fits image s n → allowed_key key ≡ true → len ≤ 4079 → first_refusal image s n key len ≡ Check.Fine
 unfolding first_refusal
-fine-first image s n key len f k l = rw (fits_geometry f, k, le-ltb 4079 len l)
+fine_first image s n key len f k l = rw (fits_geometry f, k, le-ltb 4079 len l)
 
 -- the value of a record that lies in the region is as long as the record says
-value-long : (region : List ℕ) (x : Record) → 15 ≤ x.len → x.at + x.len ≤ length region → length (value_in region x) ≡ value_length x
-value-long region x l f = simp (length-take, length-drop) (omega arith)
+value_long : (region : List ℕ) (x : Record) → 15 ≤ x.len → x.at + x.len ≤ length region → length (value_in region x) ≡ value_length x
+value_long region x l f = simp (length-take, length-drop) (omega arith)
 
 module _ {s n : ℕ} {image : List ℕ} (w : WellFormed s n image) (key : ℕ) where
   -- a bound key is hit
@@ -43,13 +43,13 @@ module _ {s n : ℕ} {image : List ℕ} (w : WellFormed s n image) (key : ℕ) w
   unfolding hit_of
   hit-bound b =
       let k : allowed_key key ≡ true = subst (λ (t : ℕ). allowed_key t ≡ true) b.key_is (w.keys b.region b.rec b.held) in
-      rw (fine-first image s n key 0 w.fits k (omega arith), is_found w key Need.Nothing b.region b.rec b.held b.key_is)
+      rw (fine_first image s n key 0 w.fits k (omega arith), is_found w key Need.Nothing b.region b.rec b.held b.key_is)
 
   -- its record says the value's length, and its sum is right
   long_of : {value : List ℕ} (b : Bound s n image key value) → (value_length b.rec ≡ length value) × (check_sum_fits (bytes_in (region_of s image b.region) b.rec) ≡ true)
   long_of b =
       let h = held image s n key b.region b.rec (hit-bound b) in
-      let long = value-long (region_of s image b.region) b.rec h.found.least (omega (arith, h.found.fits, h.size)) in
+      let long = value_long (region_of s image b.region) b.rec h.found.least (omega (arith, h.found.fits, h.size)) in
       (sym long ∙ ap length b.value_is, w.sums b.region b.rec b.held)
 
   pub get-bound : {value : List ℕ} (b : Bound s n image key value) (buffer : List ℕ) → length value ≤ length buffer
@@ -70,7 +70,7 @@ module _ {s n : ℕ} {image : List ℕ} (w : WellFormed s n image) (key : ℕ) w
   pub get-unbound : (buffer : List ℕ) → allowed_key key ≡ true → ((value : List ℕ) → Bound s n image key value → ⊥)
       → get_of image s n key buffer ≡ record { answer = Refused Refusal.KeyNotFound; buffer = buffer }
   unfolding get_of hit_of
-  get-unbound buffer k none = rw (fine-first image s n key 0 w.fits k (omega arith)) (go (lookup_in key Need.Nothing s image (probes key n)) refl)
+  get-unbound buffer k none = rw (fine_first image s n key 0 w.fits k (omega arith)) (go (lookup_in key Need.Nothing s image (probes key n)) refl)
     where
       go : (l : Looked) → lookup_in key Need.Nothing s image (probes key n) ≡ l → got_by s image buffer (hit_by l) ≡ record { answer = Refused Refusal.KeyNotFound; buffer = buffer }
       go (Looked.Live r x) e =
@@ -84,4 +84,4 @@ module _ {s n : ℕ} {image : List ℕ} (w : WellFormed s n image) (key : ℕ) w
   unfolding append_of applied
   append_bound b value l =
       let k : allowed_key key ≡ true = subst (λ (t : ℕ). allowed_key t ≡ true) b.key_is (w.keys b.region b.rec b.held) in
-      rw (fine-first image s n key (length value) w.fits k l, is_found w key (Need.Room (record_length (length value))) b.region b.rec b.held b.key_is)
+      rw (fine_first image s n key (length value) w.fits k l, is_found w key (Need.Room (record_length (length value))) b.region b.rec b.held b.key_is)

@@ -22,7 +22,7 @@ use Rattle.format.specs.Layout.{record_bytes}
 use Rattle.refusals.specs.declared.Refusal.{Refusal}
 use Rattle.sweeping.specs.declared.Verdict.{Verdict}
 use Rattle.sweeping.specs.Sweeps.{verdict}
-use Rattle.plans.specs.Answers.{refusal, numberStartsAnew, startsAnew}
+use Rattle.plans.specs.Answers.{refusal, number_starts_anew, starts_anew}
 use Rattle.store.specs.Write.{Done, append_of, remove_of, refused, initialise_of}
 use Rattle.store.specs.Collect.{collect_in, collect_of}
 use Rattle.store.specs.Read.{get_of}
@@ -109,7 +109,7 @@ collect-length image s n = go (geometry image s n)
     go false = refl
 
 -- the refusals by which initialise starts anew are all behind 1, 2 and 3
-anew_behind : (k : ℕ) → numberStartsAnew k ≡ true → 4 ≤ k
+anew_behind : (k : ℕ) → number_starts_anew k ≡ true → 4 ≤ k
 anew_behind zero h = absurd (false≢true h)
 anew_behind (suc zero) h = absurd (false≢true h)
 anew_behind (suc (suc zero)) h = absurd (false≢true h)
@@ -120,9 +120,9 @@ anew_behind (suc (suc (suc (suc k)))) h = omega arith
 pub initialise_writes : (image : List ℕ) (s n key : ℕ)
     → ((initialise_of image s n key).image ≡ image) ⊎ ((initialise_of image s n key).image ≡ written (erased (n * s)) (home key n * s) (record_bytes key []))
 unfolding initialise_of
-initialise_writes image s n key = go (startsAnew (get_of image s n key []).answer) refl
+initialise_writes image s n key = go (starts_anew (get_of image s n key []).answer) refl
   where
-    go : (b : Bool) → startsAnew (get_of image s n key []).answer ≡ b
+    go : (b : Bool) → starts_anew (get_of image s n key []).answer ≡ b
         → ((initialise_of image s n key).image ≡ image) ⊎ ((initialise_of image s n key).image ≡ written (erased (n * s)) (home key n * s) (record_bytes key []))
     go true e = inr (ap (λ (d : Done). d.image) (initialise_written key image s n (anew_behind (refusal (answer_of (get key []) image s n)) e)))
     go false e = inl (rw (e, initialise_of))

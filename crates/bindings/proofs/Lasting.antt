@@ -15,7 +15,7 @@ use Rattle.lookup.specs.declared.Need.{Need}
 use Rattle.lookup.specs.declared.Seen.{Seen}
 use Rattle.lookup.specs.declared.Turn.{Turn}
 use Rattle.lookup.specs.Turns.{turn_of, on_turn, read_from}
-use Rattle.plans.specs.Answers.{startsAnew}
+use Rattle.plans.specs.Answers.{starts_anew}
 use Rattle.store.specs.Write.{Done, append_of, remove_of, initialise_by, initialise_of}
 use Rattle.store.specs.Read.{get_of}
 use Rattle.store.specs.Call.{Call, get, append, remove, collect, initialise, image_after}
@@ -61,12 +61,12 @@ module _ {s n : ℕ} {image : List ℕ} (w : WellFormed s n image) where
 -- Any call.
 
 module _ {s n : ℕ} {image : List ℕ} (w : WellFormed s n image) where
-  initialise_leaves : (key : ℕ) → key < 2 ^ 64 → (t : Bool) → startsAnew (get_of image s n key []).answer ≡ t → WellFormed s n (initialise_by image s n key (get_of image s n key []).answer).image
+  initialise_leaves : (key : ℕ) → key < 2 ^ 64 → (t : Bool) → starts_anew (get_of image s n key []).answer ≡ t → WellFormed s n (initialise_by image s n key (get_of image s n key []).answer).image
   initialise_leaves key k false e = rw e w
   initialise_leaves key k true e =
       rw e (append_leaves (blank_well_formed w.fits.shape) key [] k no_bytes (append_of (erased (n * s)) s n key []) (appending (erased (n * s)) s n key []))
 
-  initialise_holds : (key : ℕ) → startsAnew (get_of image s n key []).answer ≡ false → (key' : ℕ) (value' : List ℕ) → Bound s n image key' value'
+  initialise_holds : (key : ℕ) → starts_anew (get_of image s n key []).answer ≡ false → (key' : ℕ) (value' : List ℕ) → Bound s n image key' value'
       → Bound s n (initialise_by image s n key (get_of image s n key []).answer).image key' value'
   initialise_holds key e key' value' b = rw e b
 
@@ -76,7 +76,7 @@ module _ {s n : ℕ} {image : List ℕ} (w : WellFormed s n image) where
   call_keeps (append key value) (typed_append k v) = append_leaves w key value k v (append_of image s n key value) (appending image s n key value)
   call_keeps (remove how key) typed_remove = remove_leaves w how key (remove_of how image s n key) (removing how image s n key)
   call_keeps collect typed_collect = (collect_done w).0.kept
-  call_keeps (initialise key) (typed_initialise k) = initialise_leaves key k (startsAnew (get_of image s n key []).answer) refl
+  call_keeps (initialise key) (typed_initialise k) = initialise_leaves key k (starts_anew (get_of image s n key []).answer) refl
 
   pub call_holds : (c : Call) → Typed c → (key : ℕ) → Spares s n key image c → (value : List ℕ) → Bound s n image key value → Bound s n (image_after c image s n) key value
   unfolding initialise_of

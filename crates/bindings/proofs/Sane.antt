@@ -22,7 +22,7 @@ use Rattle.lookup.specs.declared.Hit.{Hit}
 use Rattle.refusals.specs.Refusals.{number, first_refusal}
 use Rattle.lookup.specs.Turns.{hit_of}
 use Rattle.plans.specs.declared.Answer.{Answer}
-use Rattle.plans.specs.Answers.{refusal, startsAnew}
+use Rattle.plans.specs.Answers.{refusal, starts_anew}
 use Rattle.store.specs.Write.{Done, append_of, remove_of, initialise_by, initialise_of}
 use Rattle.values.specs.Values.{read_answer}
 use Rattle.store.specs.Read.{got_by, get_of}
@@ -94,7 +94,7 @@ module _ {s n : ℕ} {image : List ℕ} (w : WellFormed s n image) where
   collect_sane = let (f, e) = (collect_done w).1 in sane_at (collect_of image s n).answer 0 (ap refusal e) (λ q. omega arith) (λ q. omega arith) (λ q. omega arith)
 
 module _ {s n : ℕ} {image : List ℕ} (w : WellFormed s n image) where
-  initialise_sane : (key : ℕ) (t : Bool) → startsAnew (get_of image s n key []).answer ≡ t → Sane (get_of image s n key []).answer → Sane (initialise_by image s n key (get_of image s n key []).answer).answer
+  initialise_sane : (key : ℕ) (t : Bool) → starts_anew (get_of image s n key []).answer ≡ t → Sane (get_of image s n key []).answer → Sane (initialise_by image s n key (get_of image s n key []).answer).answer
   initialise_sane key false e h = rw e h
   initialise_sane key true e h = rw e (append_sane (blank_well_formed w.fits.shape) key [] (append_of (erased (n * s)) s n key []) (appending (erased (n * s)) s n key []))
 
@@ -104,4 +104,4 @@ module _ {s n : ℕ} {image : List ℕ} (w : WellFormed s n image) where
   call_sane (append key value) = append_sane w key value (append_of image s n key value) (appending image s n key value)
   call_sane (remove how key) = remove_sane w how key (remove_of how image s n key) (removing how image s n key)
   call_sane collect = collect_sane w
-  call_sane (initialise key) = initialise_sane key (startsAnew (get_of image s n key []).answer) refl (get_sane w key [] (hit_of image s n key) (hitting image s n key))
+  call_sane (initialise key) = initialise_sane key (starts_anew (get_of image s n key []).answer) refl (get_sane w key [] (hit_of image s n key) (hitting image s n key))

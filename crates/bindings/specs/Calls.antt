@@ -3,7 +3,7 @@ use Rattle.std.specs.Prelude.{ℕ, ◌^◌, ◌<◌, ◌≡◌, false, List, [],
 use Rattle.std.specs.Int.Bits.{bit_and}
 use Rattle.chip.specs.Chip.{Bytes}
 use Rattle.format.specs.declared.Removal.{Removal}
-use Rattle.plans.specs.Answers.{startsAnew}
+use Rattle.plans.specs.Answers.{starts_anew}
 use Rattle.store.specs.Read.{get_of}
 use Rattle.store.specs.Call.{Call, get, append, remove, collect, initialise, image_after}
 
@@ -22,7 +22,7 @@ pub data Spares (s n : ℕ) (key : ℕ) (image : List ℕ) : Call → Type 0 whe
   spares_append : {k : ℕ} {value : List ℕ} → Spares s n key image (append k value)
   spares_remove : {how : Removal} {k : ℕ} → (k ≡ key → ⊥) → Spares s n key image (remove how k)
   spares_collect : Spares s n key image collect
-  spares_initialise : {k : ℕ} → startsAnew (get_of image s n k []).answer ≡ false → Spares s n key image (initialise k)
+  spares_initialise : {k : ℕ} → starts_anew (get_of image s n k []).answer ≡ false → Spares s n key image (initialise k)
 
 -- R11.8: after any calls: the image after a list of them, one after the other
 unfoldable pub image_after_all : ℕ → ℕ → List Call → List ℕ → List ℕ

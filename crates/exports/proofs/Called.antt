@@ -13,7 +13,7 @@ use Rattle.running.specs.declared.Reply.{Reply}
 use Rattle.running.specs.declared.Request.{Request}
 use Rattle.rule.specs.Rule.{rule}
 use Rattle.steps.specs.Step.{stepped, region_after, buffer_after}
-use Rattle.replies.specs.Answers.{requestNumbers}
+use Rattle.replies.specs.Answers.{request_numbers}
 use Rattle.operations.specs.declared.COperation.{COperation}
 use Rattle.operations.specs.declared.unpacks.KnownReply.{KnownReply}
 use Rattle.operations.specs.Unpacks.{KnownOp, unpacked, reply_number, known_reply}
@@ -89,14 +89,14 @@ module _ (o : COperation) (y : ℕ) (region value buffer : List ℕ) where
       go false r = Misfit.rule_broken r
 
 -- The refusal's number in a request is that of the request.
-pub refused : (q : Request) → (requestNumbers q).answer.refusal ≡ request_refusal q
+pub refused : (q : Request) → (request_numbers q).answer.refusal ≡ request_refusal q
 refused (Request.Read r) = refl
 refused (Request.Write a e p) = refl
 refused (Request.Erase r) = refl
 refused (Request.Answers answer) = refusal_numbers answer
 
 -- A request that lies in a chip lies there in numbers.
-pub inside_numbers : {s n : ℕ} {q : Request} → Inside s n q → InsideNumbers s n (requestNumbers q)
+pub inside_numbers : {s n : ℕ} {q : Request} → Inside s n q → InsideNumbers s n (request_numbers q)
 inside_numbers (Inside.reads l) = InsideNumbers.reads refl l
 inside_numbers (Inside.writes r l f t) = InsideNumbers.writes r refl l f (omega arith) refl
 inside_numbers (Inside.erases l) = InsideNumbers.erases refl (omega arith)

@@ -14,7 +14,7 @@ use Rattle.running.specs.declared.Request.{Request}
 use Rattle.running.specs.Waits.{request_of}
 use Rattle.rule.specs.Rule.{rule}
 use Rattle.steps.specs.Step.{next_op, fits_here, stepped}
-use Rattle.replies.specs.Answers.{requestNumbers}
+use Rattle.replies.specs.Answers.{request_numbers}
 use Rattle.operations.specs.declared.COperation.{COperation}
 use Rattle.operations.specs.declared.unpacks.KnownReply.{KnownReply}
 use Rattle.operations.specs.Unpacks.{known_reply}
@@ -33,26 +33,26 @@ use Rattle.exports.proofs.Called as Call
 
 -- A request by its number.
 
-is_answer : (q : Request) → (requestNumbers q).kind ≡ 4 → (answer : Answer) × (q ≡ Request.Answers answer)
+is_answer : (q : Request) → (request_numbers q).kind ≡ 4 → (answer : Answer) × (q ≡ Request.Answers answer)
 is_answer (Request.Read r) e = absurd (omega arith)
 is_answer (Request.Write a b p) e = absurd (omega arith)
 is_answer (Request.Erase r) e = absurd (omega arith)
 is_answer (Request.Answers answer) e = (answer, refl)
 
-is_write : (q : Request) → (requestNumbers q).kind ≡ 2 → q ≡ Request.Write (requestNumbers q).from (requestNumbers q).to (requestNumbers q).place
+is_write : (q : Request) → (request_numbers q).kind ≡ 2 → q ≡ Request.Write (request_numbers q).from (request_numbers q).to (request_numbers q).place
 is_write (Request.Read r) e = absurd (omega arith)
 is_write (Request.Write a b p) e = refl
 is_write (Request.Erase r) e = absurd (omega arith)
 is_write (Request.Answers answer) e = absurd (omega arith)
 
-is_service : (q : Request) → ((requestNumbers q).kind ≡ 4 → ⊥) → asks q ≡ true
+is_service : (q : Request) → ((request_numbers q).kind ≡ 4 → ⊥) → asks q ≡ true
 is_service (Request.Read r) h = refl
 is_service (Request.Write a b p) h = refl
 is_service (Request.Erase r) h = refl
 is_service (Request.Answers answer) h = absurd (h refl)
 
 -- An operation that keeps the rule and has answered has the number of the end.
-answered_6 : (op : Op) → rule op ≡ true → few op.plan.edits ≡ true → op.fresh ≡ false → (requestNumbers (request_of op)).kind ≡ 4 → (packed op).next ≡ 6
+answered_6 : (op : Op) → rule op ≡ true → few op.plan.edits ≡ true → op.fresh ≡ false → (request_numbers (request_of op)).kind ≡ 4 → (packed op).next ≡ 6
 answered_6 op r h f e = go (stood op h)
   where
     go : Standing op → (packed op).next ≡ 6

@@ -12,7 +12,7 @@ use Rattle.running.specs.declared.Op.{Op}
 use Rattle.running.specs.declared.Reply.{Reply}
 use Rattle.running.specs.declared.Request.{Request}
 use Rattle.steps.specs.Step.{fits_here, stepped}
-use Rattle.replies.specs.Answers.{requestNumbers}
+use Rattle.replies.specs.Answers.{request_numbers}
 use Rattle.operations.specs.declared.COperation.{COperation}
 use Rattle.operations.specs.Unpacks.{reply_number}
 use Rattle.numbers.specs.declared.CStepped.{CStepped}
@@ -63,12 +63,12 @@ module _ (o : COperation) (y : ℕ) (region value buffer : List ℕ) where
     where
       go : {t : CStepped} {r b : List ℕ} → Called o y region value buffer t r b → (r ≡ region) ⊎ (t.request.kind ≡ 2)
       go (nothing m) = inl refl
-      go (runs op said k f) = ⊎_elim inl (λ (a, e, p, h). inr (ap (λ (q : Request). (requestNumbers q).kind) h)) (Steps.region_altered_only op said region value buffer)
+      go (runs op said k f) = ⊎_elim inl (λ (a, e, p, h). inr (ap (λ (q : Request). (request_numbers q).kind) h)) (Steps.region_altered_only op said region value buffer)
 
   pub buffer_altered : (step_buffer o y region value buffer ≡ buffer) ⊎ ((o.next ≡ 1) × (o.aim ≡ 1) × ReadsNumbers (step_numbers o y region value buffer).request)
   buffer_altered = go (called o y region value buffer)
     where
-      answers : {answer : Answer} → Reads answer → ReadsNumbers (requestNumbers (Request.Answers answer))
+      answers : {answer : Answer} → Reads answer → ReadsNumbers (request_numbers (Request.Answers answer))
       answers complete = ReadsNumbers.complete refl refl
       answers too_short = ReadsNumbers.too_short refl refl
       answers wrong_sum = ReadsNumbers.wrong_sum refl refl
@@ -77,7 +77,7 @@ module _ (o : COperation) (y : ℕ) (region value buffer : List ℕ) where
       go (nothing m) = inl refl
       go (runs op said k f) =
           ⊎_elim inl
-          (λ g. let (next, aim) = looks_get k g.is_get in inr (next, aim, subst (λ (q : Request). ReadsNumbers (requestNumbers q)) (sym g.answers) (answers g.read)))
+          (λ g. let (next, aim) = looks_get k g.is_get in inr (next, aim, subst (λ (q : Request). ReadsNumbers (request_numbers q)) (sym g.answers) (answers g.read)))
           (Steps.buffer_altered_only op said region value buffer)
 
   -- R6.11: a call that one of its clauses speaks of alters nothing.

@@ -12,7 +12,7 @@ use Rattle.running.specs.declared.Request.{Request}
 use Rattle.rule.specs.Rule.{rule}
 use Rattle.operations.specs.declared.COperation.{COperation}
 use Rattle.operations.specs.declared.unpacks.KnownReply.{KnownReply}
-use Rattle.replies.specs.Answers.{answerNumbers, requestNumbers}
+use Rattle.replies.specs.Answers.{answer_numbers, request_numbers}
 use Rattle.operations.specs.Unpacks.{no_operation, KnownOp, standing, unpacked, reply_number, known_reply}
 use Rattle.numbers.specs.Packs.{few, over, packed}
 use Rattle.replies.proofs.Answered.{answer_in, answer_back, request_in, request_back}
@@ -51,23 +51,23 @@ unfolding unpacked standing
 nothing_runs = refl
 
 -- R12.1: the refusal's number in an answer is its own, k for R6.k, and 0 where the answer is no refusal.
-pub refusal_numbers : (answer : Answer) → (answerNumbers answer).refusal ≡ refusal answer
+pub refusal_numbers : (answer : Answer) → (answer_numbers answer).refusal ≡ refusal answer
 refusal_numbers (Complete len) = refl
 refusal_numbers Written = refl
 refusal_numbers (Freed bytes) = refl
 refusal_numbers (Refused w) = refl
 
 -- R12.1: the value in an answer is the one that the answer carries, and 0 where it carries none.
-pub value_numbers : (answer : Answer) → (answerNumbers answer).value ≡ get_or (values answer) 0 0
+pub value_numbers : (answer : Answer) → (answer_numbers answer).value ≡ get_or (values answer) 0 0
 value_numbers (Complete len) = refl
 value_numbers Written = refl
 value_numbers (Freed bytes) = refl
 value_numbers (Refused w) = refl
 
 -- R12.1: two answers with the same numbers are the same answer.
-pub one_answer : (a b : Answer) → answerNumbers a ≡ answerNumbers b → a ≡ b
+pub one_answer : (a b : Answer) → answer_numbers a ≡ answer_numbers b → a ≡ b
 one_answer a b e = sym (answer_back a) ∙ ap answer_in e ∙ answer_back b
 
 -- R12.2: two requests with the same numbers are the same request.
-pub one_request : (a b : Request) → requestNumbers a ≡ requestNumbers b → a ≡ b
+pub one_request : (a b : Request) → request_numbers a ≡ request_numbers b → a ≡ b
 one_request a b e = sym (request_back a) ∙ ap request_in e ∙ request_back b

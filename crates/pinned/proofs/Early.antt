@@ -19,7 +19,7 @@ use Rattle.refusals.specs.declared.Check.{Check}
 use Rattle.refusals.specs.Refusals.{first_refusal}
 use Rattle.lookup.specs.Turns.{hit_after, hit_of}
 use Rattle.plans.specs.declared.Answer.TheVariants.{Refused}
-use Rattle.plans.specs.Answers.{startsAnew}
+use Rattle.plans.specs.Answers.{starts_anew}
 use Rattle.plans.specs.Writes.{applied}
 use Rattle.store.specs.Write.{Done, refused, append_after, append_of, remove_by, remove_of, initialise_by, initialise_of}
 use Rattle.store.specs.Read.{got_by, get_of}
@@ -139,7 +139,7 @@ pub outcome_is : {image : List ℕ} {s n : ℕ} {c : Call} {check : Check} → E
 outcome_is {image} {s} {n} {c} e = outcome_after image s n c ∙ ap (after c image s n) (early_is e)
 
 -- Each of the three hands the image back, initialise's too.
-handed_back : (image : List ℕ) (s n : ℕ) (c : Call) (w : Refusal) → startsAnew (Refused w) ≡ false → after c image s n (Check.Refused w) ≡ refused w image
+handed_back : (image : List ℕ) (s n : ℕ) (c : Call) (w : Refusal) → starts_anew (Refused w) ≡ false → after c image s n (Check.Refused w) ≡ refused w image
 unfolding applied
 handed_back image s n (get key buffer) w h = refl
 handed_back image s n (append key value) w h = refl
@@ -147,7 +147,7 @@ handed_back image s n (remove how key) w h = refl
 handed_back image s n collect w h = refl
 handed_back image s n (initialise key) w h = rw h
 
-kept : {image : List ℕ} {s n : ℕ} {c : Call} {w : Refusal} → Early image s n c (Check.Refused w) → startsAnew (Refused w) ≡ false
+kept : {image : List ℕ} {s n : ℕ} {c : Call} {w : Refusal} → Early image s n c (Check.Refused w) → starts_anew (Refused w) ≡ false
 kept (geometry_bad p) = refl
 kept (key_bad p q) = refl
 kept (too_large p q t) = refl

@@ -24,7 +24,7 @@ use Rattle.plans.specs.declared.Edits.{Edits}
 use Rattle.plans.specs.declared.First.{First}
 use Rattle.plans.specs.declared.Then.{Then}
 use Rattle.plans.specs.declared.Plan.{Plan}
-use Rattle.plans.specs.Answers.{startsAnew}
+use Rattle.plans.specs.Answers.{starts_anew}
 use Rattle.plans.specs.Writes.{value_lent, first, rest, ends, refuses}
 use Rattle.plans.specs.Fits.{record_fits, edit_fits, edits_fit, room_fits, seen_fits, lent_to_append, lent_for, value_short, then_fits, answer_rests, rests}
 use Rattle.planning.specs.Planning.{writes, gives, anew, place_plan, append_plan, plan, given_plan}
@@ -84,7 +84,7 @@ module _ (s n : ℕ) (lent : Lent) where
     -- The plan after a value was read, with its answer.
     pub given_fits : (again : Bool) (answer : Answer) → renews again lent ≡ true → 1 ≤ n → PlanFits s n lent (given_plan n again answer)
     given_fits false answer h least = ends_fits s n lent short answer
-    given_fits true answer h least = go (startsAnew answer)
+    given_fits true answer h least = go (starts_anew answer)
       where
         go : (b : Bool) → PlanFits s n lent (cond b (anew n) (ends answer))
         go true = anew_fits h least

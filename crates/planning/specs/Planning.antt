@@ -16,7 +16,7 @@ use Rattle.plans.specs.declared.Edit.{Edit}
 use Rattle.plans.specs.declared.Edits.{Edits}
 use Rattle.plans.specs.declared.Then.{Then}
 use Rattle.plans.specs.declared.Plan.{Plan}
-use Rattle.plans.specs.Answers.{startsAnew}
+use Rattle.plans.specs.Answers.{starts_anew}
 use Rattle.plans.specs.Writes.{follows, ends, refuses, look}
 
 -- R5.4: what an aim's lookup is for: append's gathers room for its record, where a value of so many bytes is lent, the others gather nothing
@@ -75,4 +75,4 @@ plan Aim.Initialise n looked = initialise_plan n (hit_by looked)
 
 -- R5.9: a value was given, with this answer. Where initialise's get is refused every region is erased; else this is the answer.
 abbrev pub given_plan : ℕ → Bool → Answer → Plan
-given_plan n again answer = cond (again && startsAnew answer) (anew n) (ends answer)
+given_plan n again answer = cond (again && starts_anew answer) (anew n) (ends answer)

@@ -19,9 +19,9 @@ values (Freed bytes) = bytes ∷ []
 values (Refused w) = value_of w
 
 -- R5.9: refused by 4, 7, 8, 9 or 10, initialise erases every region.
-abbrev pub numberStartsAnew : ℕ → Bool
-numberStartsAnew k = eqb k 4 || (leb 7 k && leb k 10)
+abbrev pub number_starts_anew : ℕ → Bool
+number_starts_anew k = eqb k 4 || (leb 7 k && leb k 10)
 
 -- R5.9: whether initialise erases every region after this answer of its get.
-abbrev pub startsAnew : Answer → Bool
-startsAnew answer = numberStartsAnew (refusal answer)
+abbrev pub starts_anew : Answer → Bool
+starts_anew answer = number_starts_anew (refusal answer)

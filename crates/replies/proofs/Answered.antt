@@ -12,7 +12,7 @@ use Rattle.plans.specs.declared.Answer.TheVariants.{Complete, Written, Freed, Re
 use Rattle.running.specs.declared.Request.{Request}
 use Rattle.replies.specs.declared.CAnswer.{CAnswer}
 use Rattle.replies.specs.declared.CRequest.{CRequest}
-use Rattle.replies.specs.Answers.{answerNumbers, requestNumbers}
+use Rattle.replies.specs.Answers.{answer_numbers, request_numbers}
 
 abbrev refusal_in : ℕ → ℕ → Refusal
 refusal_in k value =
@@ -50,7 +50,7 @@ answer_in a =
     (cond (eqb a.kind 3) (Freed a.value)
     (Refused (refusal_in a.refusal a.value))))
 
-pub answer_back : (a : Answer) → answer_in (answerNumbers a) ≡ a
+pub answer_back : (a : Answer) → answer_in (answer_numbers a) ≡ a
 answer_back (Complete len) = refl
 answer_back Written = refl
 answer_back (Freed bytes) = refl
@@ -63,7 +63,7 @@ request_in q =
     (cond (eqb q.kind 3) (Request.Erase q.region)
     (Request.Answers (answer_in q.answer))))
 
-pub request_back : (q : Request) → request_in (requestNumbers q) ≡ q
+pub request_back : (q : Request) → request_in (request_numbers q) ≡ q
 request_back (Request.Read r) = refl
 request_back (Request.Write from to place) = refl
 request_back (Request.Erase r) = refl

@@ -1,6 +1,6 @@
 // Answers and requests in numbers.
 ghost use Rattle.std.specs.Prelude.{◌≡◌};
-ghost use Rattle.replies.specs.Answers.{answerNumbers, serviceNumbers, requestNumbers};
+ghost use Rattle.replies.specs.Answers.{answer_numbers, service_numbers, request_numbers};
 
 use crate::{CAnswer, CRequest};
 use plans::Answer;
@@ -8,7 +8,7 @@ use running::Request;
 
 // R12.1: an answer in numbers.
 pub fn answer_numbers(answer: Answer) -> CAnswer
-    ensures { result ≡ answerNumbers answer }
+    ensures { result ≡ answer_numbers answer }
 {
     match answer {
         Answer::Complete(len) => CAnswer {
@@ -35,7 +35,7 @@ pub fn answer_numbers(answer: Answer) -> CAnswer
 }
 
 fn service(kind: u32, region: usize, from: usize, to: usize, place: usize) -> CRequest
-    ensures { result ≡ serviceNumbers kind region from to place }
+    ensures { result ≡ service_numbers kind region from to place }
 {
     CRequest {
         kind,
@@ -53,7 +53,7 @@ fn service(kind: u32, region: usize, from: usize, to: usize, place: usize) -> CR
 
 // R12.2: a request in numbers.
 pub fn request_numbers(request: Request) -> CRequest
-    ensures { result ≡ requestNumbers request }
+    ensures { result ≡ request_numbers request }
 {
     match request {
         Request::Read { region } => service(1, region, 0, 0, 0),

@@ -26,7 +26,7 @@ use Rattle.lookup.specs.Gather.{unseen}
 use Rattle.plans.specs.declared.Edit.{Edit}
 use Rattle.plans.specs.declared.Plan.{Plan}
 use Rattle.sweeping.specs.declared.Verdict.{Verdict}
-use Rattle.plans.specs.Answers.{startsAnew}
+use Rattle.plans.specs.Answers.{starts_anew}
 use Rattle.plans.specs.Writes.{listed}
 use Rattle.planning.specs.Planning.{anew, place_plan, append_plan, remove_plan}
 use Rattle.sweeping.specs.Sweeps.{verdict}
@@ -143,7 +143,7 @@ bound collect image s n = go (geometry image s n)
     go false = omega arith
 bound (initialise key) image s n =
     unless_bound image s n key 0 (3 * n + 1) _
-    (λ z. simp length-append (omega (arith, reads_bound key s n z Need.Nothing image, go z (startsAnew (get_of image s n key []).answer))))
+    (λ z. simp length-append (omega (arith, reads_bound key s n z Need.Nothing image, go z (starts_anew (get_of image s n key []).answer))))
   where
     go : 1 ≤ n → (t : Bool) → length (cond t (anew_services key s n) []) ≤ 2 * n + 1
     go z true = anew_bound key s n z

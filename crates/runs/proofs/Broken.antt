@@ -8,7 +8,7 @@ use mathlib.Core.List.{List, [], ◌∷◌}
 use lib.ListN.{length, take}
 use Rattle.chip.specs.Every.{Every}
 use Rattle.chip.specs.Geometry.{Fits, numbers}
-use Rattle.plans.specs.Answers.{startsAnew}
+use Rattle.plans.specs.Answers.{starts_anew}
 use Rattle.store.specs.Read.{get_of}
 use Rattle.store.specs.Call.{Call, get, append, remove, collect, initialise, value_of}
 use Rattle.pinned.specs.Left.{erase_all}
@@ -72,7 +72,7 @@ module _ {s n : ℕ} {image : List ℕ} (w : WellFormed s n image) where
       go (append key value) = rw (erased_none k) w
       go (remove how key) = rw (erased_none k) w
       go collect = (collect_broken w k).0
-      go (initialise key) = erases_keep w _ (every_take k _ (below (startsAnew (get_of image s n key []).answer)))
+      go (initialise key) = erases_keep w _ (every_take k _ (below (starts_anew (get_of image s n key []).answer)))
 
   pub left_bound : (c : Call) → Typed c → (key : ℕ) → Spares s n key image c → (value : List ℕ) → Bound s n image key value → {image' : List ℕ} → Left c image s n image' → Bound s n image' key value
   left_bound c t key p value b (as_after e) = rw e (call_holds w c t key p value b)

@@ -33,7 +33,7 @@ use Rattle.plans.specs.declared.Edits.{Edits}
 use Rattle.plans.specs.declared.First.{First}
 use Rattle.plans.specs.declared.Then.{Then}
 use Rattle.plans.specs.declared.Plan.{Plan}
-use Rattle.plans.specs.Answers.{startsAnew}
+use Rattle.plans.specs.Answers.{starts_anew}
 use Rattle.plans.specs.Writes.{value_lent, listed, applied, follows, look, ends}
 use Rattle.plans.specs.Fits.{rests}
 use Rattle.planning.specs.Planning.{need_of, anew, place_plan, append_plan, remove_plan, plan}
@@ -208,17 +208,17 @@ module _ (s n key : ℕ) (value image buffer : List ℕ) (f : Fits image s n) wh
   renews false answer = over refl
 
   -- a lookup that finds no record is one of refusals 4, 7 and 8
-  fault_renews : (g : Fault) → startsAnew (Answer.Refused (refusal_of g)) ≡ true
+  fault_renews : (g : Fault) → starts_anew (Answer.Refused (refusal_of g)) ≡ true
   fault_renews Fault.UnsupportedVersion = refl
   fault_renews Fault.CorruptData = refl
 
   abbrev Initialised : ℕ → Looked → Answer → Type 0
   Initialised r looked answer =
-      Planned s n key Lent.Nothing value main Aim.Initialise image buffer f.shape.n_least (cond (startsAnew answer) (anew_services key s n) [])
-      (leaves (cond (startsAnew answer) appended (record { answer = answer; image = image })) buffer) r looked
+      Planned s n key Lent.Nothing value main Aim.Initialise image buffer f.shape.n_least (cond (starts_anew answer) (anew_services key s n) [])
+      (leaves (cond (starts_anew answer) appended (record { answer = answer; image = image })) buffer) r looked
 
   initialise_ends : (r : ℕ) (looked : Looked) → Near r looked → Initialised r looked (got_by s image [] (hit_by looked)).answer
-  initialise_ends r looked (near_live {x = x}) = let answer : Answer = (got_by s image [] (Hit.Live r x)).answer in renews (startsAnew answer) answer
+  initialise_ends r looked (near_live {x = x}) = let answer : Answer = (got_by s image [] (Hit.Live r x)).answer in renews (starts_anew answer) answer
   initialise_ends r (Looked.Bad g p) near_bad = rw (fault_renews g) anew_comes
   initialise_ends r looked near_end = anew_comes
 
@@ -227,8 +227,8 @@ module _ (s n key : ℕ) (value image buffer : List ℕ) (f : Fits image s n) wh
     first_answer = (get_of image s n key []).answer
 
     initialise_comes : Comes s n key Lent.Nothing value main (follows (first_of (initialise key))) image buffer
-        (get_reads key image s n ++ cond (startsAnew first_answer) (anew_services key s n) [])
-        (leaves (cond (startsAnew first_answer) appended (record { answer = first_answer; image = image })) buffer)
+        (get_reads key image s n ++ cond (starts_anew first_answer) (anew_services key s n) [])
+        (leaves (cond (starts_anew first_answer) appended (record { answer = first_answer; image = image })) buffer)
     initialise_comes =
         looks s n key Lent.Nothing value main _ image buffer f.shape.n_least _ _
         (λ r looked e near. subst (Initialised r looked) (ap (λ (g : Got). g.answer) (got_is image s n key fine [] e)) (initialise_ends r looked near))
@@ -260,7 +260,7 @@ comes collect s n value image buffer f lends_collect h =
     (sym (fits_geometry f)) (sweeps s n 1 Lent.Nothing value [] buffer image f.shape.n_least)
 comes (initialise key) s n value image buffer f lends_initialise h =
     let answer : Answer = (get_of image s n key []).answer in
-    let done : Check → Out = λ d. leaves (cond (startsAnew answer) (append_after (erased (n * s)) s n key [] d) (record { answer = answer; image = image })) buffer in
+    let done : Check → Out = λ d. leaves (cond (starts_anew answer) (append_after (erased (n * s)) s n key [] d) (record { answer = answer; image = image })) buffer in
     let fine = first_fine key 0 f h in
     let clean = first_fine key 0 (fits_blank f.shape) h in
     fine_comes _ (λ (c : Check). done (first_refusal (erased (n * s)) s n key 0)) fine

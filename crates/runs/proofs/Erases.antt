@@ -18,7 +18,7 @@ use Rattle.lookup.specs.declared.Looked.{Looked}
 use Rattle.lookup.specs.Turns.{lookup_in, regions_read, hit_by}
 use Rattle.sweeping.specs.declared.Verdict.{Verdict}
 use Rattle.sweeping.specs.Sweeps.{verdict}
-use Rattle.plans.specs.Answers.{startsAnew}
+use Rattle.plans.specs.Answers.{starts_anew}
 use Rattle.plans.specs.declared.Aim.{Aim}
 use Rattle.planning.specs.Planning.{need_of, append_plan, remove_plan, plan}
 use Rattle.store.specs.Read.{get_of}
@@ -165,7 +165,7 @@ call_writes collect image s n = go (geometry image s n)
     go true = collect_writes s image n 0 image (λ q l. refl)
     go false = none_erased
 call_writes (initialise key) image s n =
-    unless_writes (first_refusal image s n key 0) (λ e. reads_and Aim.Initialise 0 key image s n (go (startsAnew (get_of image s n key []).answer)))
+    unless_writes (first_refusal image s n key 0) (λ e. reads_and Aim.Initialise 0 key image s n (go (starts_anew (get_of image s n key []).answer)))
     (λ w e. ap (λ (t : Bool). cond t (numbers 0 n) []) (first_anew image s n key w e))
   where
     go : (t : Bool) → Writes (cond t (anew_services key s n) []) (cond t (numbers 0 n) [])

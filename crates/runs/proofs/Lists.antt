@@ -33,7 +33,7 @@ use Rattle.plans.specs.declared.Answer.TheVariants.{Complete, Written, Freed}
 use Rattle.plans.specs.declared.Aim.{Aim}
 use Rattle.sweeping.specs.declared.Verdict.{Verdict}
 use Rattle.sweeping.specs.Sweeps.{verdict_on, verdict}
-use Rattle.plans.specs.Answers.{refusal, startsAnew}
+use Rattle.plans.specs.Answers.{refusal, starts_anew}
 use Rattle.planning.specs.Planning.{anew, place_plan, append_plan, remove_plan}
 use Rattle.store.specs.Read.{get_of}
 use Rattle.store.specs.Write.{Done, append_of, initialise_of}
@@ -110,12 +110,12 @@ module _ (image : List ℕ) (s n key : ℕ) where
   unfold_remove how h = ap (λ (c : Check). unless_refused c (reads_and_edits (Aim.Remove how) 0 key image s n)) (early_is {c = remove how key} (Early.fine h))
 
   unfold_initialise : Reads image s n (initialise key)
-      → services (initialise key) image s n ≡ services (get key []) image s n ++ cond (startsAnew (get_of image s n key []).answer) (anew_services key s n) []
+      → services (initialise key) image s n ≡ services (get key []) image s n ++ cond (starts_anew (get_of image s n key []).answer) (anew_services key s n) []
   unfolding services first_refusal
   unfold_initialise h =
       let fine = early_is {c = initialise key} (Early.fine h) in
       let all : List Request = reads Aim.Initialise 0 key image s n in
-      let anew : List Request = cond (startsAnew (get_of image s n key []).answer) (anew_services key s n) [] in
+      let anew : List Request = cond (starts_anew (get_of image s n key []).answer) (anew_services key s n) [] in
       ap (λ (c : Check). unless_refused c (all ++ anew)) fine ∙ ap (λ (c : Check). unless_refused c all ++ anew) (sym fine)
 
   pub get_list : (buffer : List ℕ) → Reads image s n (get key buffer)
@@ -201,7 +201,7 @@ module _ (image : List ℕ) (s n key : ℕ) where
 
 -- Initialise, by whether it starts anew.
 module _ (image : List ℕ) (s n key : ℕ) where
-  initialise_by_lem : (t : Bool) → startsAnew (get_of image s n key []).answer ≡ t
+  initialise_by_lem : (t : Bool) → starts_anew (get_of image s n key []).answer ≡ t
       → initialise_of image s n key ≡ cond t (append_of (erased (n * s)) s n key []) (record { answer = (get_of image s n key []).answer; image = image })
   unfolding initialise_of
   initialise_by_lem t e = ap (λ (b : Bool). cond b (append_of (erased (n * s)) s n key []) (record { answer = (get_of image s n key []).answer; image = image })) e
@@ -209,16 +209,16 @@ module _ (image : List ℕ) (s n key : ℕ) where
   abbrev Listed : Bool → Type 0
   Listed t = services (initialise key) image s n ≡ services (get key []) image s n ++ cond t (anew_services key s n) []
 
-  by_anew : Reads image s n (initialise key) → {t : Bool} → startsAnew (get_of image s n key []).answer ≡ t → Listed t
+  by_anew : Reads image s n (initialise key) → {t : Bool} → starts_anew (get_of image s n key []).answer ≡ t → Listed t
   by_anew h e = subst Listed e (unfold_initialise image s n key h)
 
   pub initialise_list : (len : ℕ) → answer_of (initialise key) image s n ≡ Complete len → services (initialise key) image s n ≡ services (get key []) image s n
-  initialise_list len h = by_anew fine (go (startsAnew (get_of image s n key []).answer) refl) ∙ append-nil (services (get key []) image s n)
+  initialise_list len h = by_anew fine (go (starts_anew (get_of image s n key []).answer) refl) ∙ append-nil (services (get key []) image s n)
     where
       fine : Reads image s n (initialise key)
       fine = reads-if image s n (initialise key) (ap refusal h)
 
-      go : (t : Bool) → startsAnew (get_of image s n key []).answer ≡ t → startsAnew (get_of image s n key []).answer ≡ false
+      go : (t : Bool) → starts_anew (get_of image s n key []).answer ≡ t → starts_anew (get_of image s n key []).answer ≡ false
       go false e = e
       go true e =
           let blank : answer_of (initialise key) image s n ≡ Written =
@@ -227,7 +227,7 @@ module _ (image : List ℕ) (s n key : ℕ) where
 
   pub initialise_anew_list : answer_of (initialise key) image s n ≡ Written
       → services (initialise key) image s n ≡ services (get key []) image s n ++ (map Request.Erase (numbers 0 n) ++ services (append key []) (erased (n * s)) s n)
-  initialise_anew_list h = by_anew fine (go (startsAnew (get_of image s n key []).answer) refl) ∙ ap (λ (l : List Request). services (get key []) image s n ++ l) anew_list
+  initialise_anew_list h = by_anew fine (go (starts_anew (get_of image s n key []).answer) refl) ∙ ap (λ (l : List Request). services (get key []) image s n ++ l) anew_list
     where
       fine : Reads image s n (initialise key)
       fine = reads-if image s n (initialise key) (ap refusal h)
@@ -236,7 +236,7 @@ module _ (image : List ℕ) (s n key : ℕ) where
       completes : {a : Answer} → Succeeds (get key []) a → a ≡ Written → ⊥
       completes Succeeds.get_completes q = let z : ◌≡◌ {A = ℕ} 0 1 = cc in omega arith
 
-      go : (t : Bool) → startsAnew (get_of image s n key []).answer ≡ t → startsAnew (get_of image s n key []).answer ≡ true
+      go : (t : Bool) → starts_anew (get_of image s n key []).answer ≡ t → starts_anew (get_of image s n key []).answer ≡ true
       go true e = e
       go false e =
           let answer : (get_of image s n key []).answer ≡ Written = sym (ap (λ (d : Done). d.answer) (initialise_by_lem false e)) ∙ h in

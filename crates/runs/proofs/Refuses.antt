@@ -17,7 +17,7 @@ use Rattle.refusals.specs.Refusals.{refusal_under, first_refusal}
 use Rattle.lookup.specs.Turns.{hit_after, hit_of}
 use Rattle.plans.specs.declared.Answer.{Answer}
 use Rattle.plans.specs.declared.Answer.TheVariants.{Refused}
-use Rattle.plans.specs.Answers.{startsAnew}
+use Rattle.plans.specs.Answers.{starts_anew}
 use Rattle.plans.specs.Writes.{value_lent, applied}
 use Rattle.store.specs.Read.{got_by, get_of}
 use Rattle.store.specs.Write.{refused, append_after, append_of, remove_by, remove_of, initialise_by, initialise_of}
@@ -34,22 +34,22 @@ use Rattle.runs.proofs.Comes.{Out, out}
 use Rattle.runs.proofs.Calls.{leaves, out_of, first_same}
 
 -- refusals 1, 2 and 3 are handed back
-first_kept : (image : List ℕ) (s n key len : ℕ) (w : Refusal) → first_refusal image s n key len ≡ Check.Refused w → startsAnew (Refused w) ≡ false
+first_kept : (image : List ℕ) (s n key len : ℕ) (w : Refusal) → first_refusal image s n key len ≡ Check.Refused w → starts_anew (Refused w) ≡ false
 unfolding first_refusal
 first_kept image s n key len w = go (geometry image s n) (allowed_key key) (ltb (largest_value edition) len)
   where
     go : (a b c : Bool)
         → cond (not a) (Check.Refused Refusal.BadGeometry) (cond (not b) (Check.Refused Refusal.BadKey) (cond c (Check.Refused Refusal.ObjectTooLarge) Check.Fine)) ≡ Check.Refused w
-        → startsAnew (Refused w) ≡ false
-    go false b c h = ap (λ (w : Refusal). startsAnew (Refused w)) (let e : w ≡ Refusal.BadGeometry = cc in e)
-    go true false c h = ap (λ (w : Refusal). startsAnew (Refused w)) (let e : w ≡ Refusal.BadKey = cc in e)
-    go true true true h = ap (λ (w : Refusal). startsAnew (Refused w)) (let e : w ≡ Refusal.ObjectTooLarge = cc in e)
+        → starts_anew (Refused w) ≡ false
+    go false b c h = ap (λ (w : Refusal). starts_anew (Refused w)) (let e : w ≡ Refusal.BadGeometry = cc in e)
+    go true false c h = ap (λ (w : Refusal). starts_anew (Refused w)) (let e : w ≡ Refusal.BadKey = cc in e)
+    go true true true h = ap (λ (w : Refusal). starts_anew (Refused w)) (let e : w ≡ Refusal.ObjectTooLarge = cc in e)
     go true true false h = absurd (let z : ◌≡◌ {A = ℕ} 0 1 = cc in omega arith)
 
 -- so that initialise starts nothing anew
-pub first_anew : (image : List ℕ) (s n key : ℕ) (w : Refusal) → first_refusal image s n key 0 ≡ Check.Refused w → startsAnew (get_of image s n key []).answer ≡ false
+pub first_anew : (image : List ℕ) (s n key : ℕ) (w : Refusal) → first_refusal image s n key 0 ≡ Check.Refused w → starts_anew (get_of image s n key []).answer ≡ false
 unfolding get_of hit_of
-first_anew image s n key w e = ap (λ (c : Check). startsAnew (got_by s image [] (hit_after image s n key c)).answer) e ∙ first_kept image s n key 0 w e
+first_anew image s n key w e = ap (λ (c : Check). starts_anew (got_by s image [] (hit_after image s n key c)).answer) e ∙ first_kept image s n key 0 w e
 
 -- what a call that is refused comes to: its services, and what it leaves
 pub record Listed : Type 0 where

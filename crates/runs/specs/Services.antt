@@ -17,7 +17,7 @@ use Rattle.lookup.specs.Turns.{lookup_in, regions_read, hit_of}
 use Rattle.plans.specs.declared.Aim.{Aim}
 use Rattle.plans.specs.declared.Plan.{Plan}
 use Rattle.sweeping.specs.declared.Verdict.{Verdict}
-use Rattle.plans.specs.Answers.{startsAnew}
+use Rattle.plans.specs.Answers.{starts_anew}
 use Rattle.plans.specs.Writes.{listed}
 use Rattle.planning.specs.Planning.{need_of, anew, plan}
 use Rattle.sweeping.specs.Sweeps.{verdict}
@@ -69,7 +69,7 @@ services (remove how key) image s n = unless_refused (first_refusal image s n ke
 services collect image s n = cond (geometry image s n) (collect_services s image (numbers 0 n)) []
 services (initialise key) image s n =
     unless_refused (first_refusal image s n key 0)
-    (reads Aim.Initialise 0 key image s n ++ cond (startsAnew (get_of image s n key []).answer) (anew_services key s n) [])
+    (reads Aim.Initialise 0 key image s n ++ cond (starts_anew (get_of image s n key []).answer) (anew_services key s n) [])
 
 -- What the services make of the image.
 
@@ -109,7 +109,7 @@ erases_of (get key buffer) image s n = []
 erases_of (append key value) image s n = []
 erases_of (remove how key) image s n = []
 erases_of collect image s n = erased_by image s n
-erases_of (initialise key) image s n = cond (startsAnew (get_of image s n key []).answer) (numbers 0 n) []
+erases_of (initialise key) image s n = cond (starts_anew (get_of image s n key []).answer) (numbers 0 n) []
 
 -- R9.1: the regions that a lookup of a key reads, in probe order up to the one that decides; all of them where none decides.
 pub data UpTo (image : List ℕ) (s key : ℕ) (order : List ℕ) : List ℕ → Type 0 where

@@ -8,7 +8,7 @@ use Rattle.entries.specs.declared.Place.{Place}
 use Rattle.entries.specs.declared.Entry.{Entry}
 use Rattle.entries.specs.declared.Shown.{Shown}
 use Rattle.lending.specs.declared.Located.{Located}
-use Rattle.replies.specs.Answers.{answerNumbers}
+use Rattle.replies.specs.Answers.{answer_numbers}
 use Rattle.sights.specs.declared.CFound.{CFound}
 use Rattle.sights.specs.declared.CEntry.{CEntry}
 
@@ -18,7 +18,7 @@ flag b = cond b 1 0
 
 -- R16.11: where a value is: the answer's numbers and the place
 abbrev pub found_numbers : Located → CFound
-found_numbers l = record { answer = answerNumbers l.answer; place = l.place }
+found_numbers l = record { answer = answer_numbers l.answer; place = l.place }
 
 -- R16.11: no record stands there: the kind, the refusal's number, and where to go on; the rest is 0
 abbrev pub empty_numbers : ℕ → ℕ → Place → CEntry

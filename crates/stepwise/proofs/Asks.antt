@@ -27,7 +27,7 @@ use Rattle.plans.specs.declared.Edits.{Edits}
 use Rattle.plans.specs.declared.First.{First}
 use Rattle.plans.specs.declared.Then.{Then}
 use Rattle.plans.specs.declared.Plan.{Plan}
-use Rattle.plans.specs.Answers.{startsAnew}
+use Rattle.plans.specs.Answers.{starts_anew}
 use Rattle.plans.specs.Writes.{value_lent, value_of, buffer_lent, bytes_of, first, rest, follows, ends}
 use Rattle.planning.specs.Planning.{need_of, anew, place_plan, plan}
 use Rattle.planning.proofs.Places.{by_place}
@@ -175,7 +175,7 @@ given_of n lent region p k = go p.next k.next_of k
     go (Then.Seek aim i seen) h k = k
     go (Then.Sweep r j) h k = k
     go (Then.Gives r x false) get_gives k = follows_of it_ends
-    go (Then.Gives r x true) (initialise_gives {key}) k = let answer : Answer = read_answer region x (buffer_lent lent) in again key (startsAnew answer) answer
+    go (Then.Gives r x true) (initialise_gives {key}) k = let answer : Answer = read_answer region x (buffer_lent lent) in again key (starts_anew answer) answer
 
 replied_of : {c : Call} (op : Op) (y : Reply) (region : List ℕ) → PlanOf c op.plan → PlanOf c (next_plan op y region)
 replied_of op Reply.Begin region p = p

@@ -29,7 +29,7 @@ use Rattle.plans.specs.declared.First.{First}
 use Rattle.plans.specs.declared.Then.{Then}
 use Rattle.plans.specs.declared.Plan.{Plan}
 use Rattle.sweeping.specs.declared.Verdict.{Verdict}
-use Rattle.plans.specs.Answers.{refusal, startsAnew}
+use Rattle.plans.specs.Answers.{refusal, starts_anew}
 use Rattle.plans.specs.Writes.{value_lent, buffer_lent, first, ends}
 use Rattle.plans.specs.Fits.{rests}
 use Rattle.planning.specs.Planning.{need_of, anew, place_plan, plan}
@@ -136,7 +136,7 @@ given_low n lent region p h = go p.next refl h
     go (Then.Sweep r k) e h = rw e h
     go (Then.Gives r x again) e h =
         let answer : Answer = read_answer region x (buffer_lent lent) in
-        anew_low (again && startsAnew answer) answer (read_low region x (buffer_lent lent))
+        anew_low (again && starts_anew answer) answer (read_low region x (buffer_lent lent))
 
 -- A service that is done leads to another, or to an end that is no refusal of the stepped form.
 

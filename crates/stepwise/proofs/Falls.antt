@@ -29,7 +29,7 @@ use Rattle.plans.specs.declared.Edit.{Edit}
 use Rattle.plans.specs.declared.First.{First}
 use Rattle.plans.specs.declared.Then.{Then}
 use Rattle.plans.specs.declared.Plan.{Plan}
-use Rattle.plans.specs.Answers.{startsAnew}
+use Rattle.plans.specs.Answers.{starts_anew}
 use Rattle.plans.specs.Writes.{value_lent, buffer_lent, listed, first, ends}
 use Rattle.plans.specs.Fits.{then_fits, rests}
 use Rattle.plans.proofs.Facts.{seek_facts, sweep_facts}
@@ -116,7 +116,7 @@ given_ahead n lent region p = go p.next refl
     go (Then.Sweep r k) e = rw e (omega arith)
     go (Then.Gives r x again) e =
         let answer : Answer = read_answer region x (buffer_lent lent) in
-        omega (arith, cut again (startsAnew answer) answer)
+        omega (arith, cut again (starts_anew answer) answer)
 
 -- A service is done.
 

@@ -13,7 +13,7 @@ use Rattle.plans.specs.declared.Lent.{Lent}
 use Rattle.plans.specs.declared.Edit.{Edit}
 use Rattle.plans.specs.declared.First.{First}
 use Rattle.plans.specs.declared.Then.{Then}
-use Rattle.plans.specs.Writes.{value_lent, in_region, start_of as beginsAt, size_of, first}
+use Rattle.plans.specs.Writes.{value_lent, in_region, start_of as begins_at, size_of, first}
 use Rattle.plans.specs.Fits.{then_fits}
 use Rattle.plans.proofs.Facts.{edit_facts, edits_facts, seek_facts, sweep_facts}
 use Rattle.store.specs.Call.{Call, get, append, remove, collect, initialise}
@@ -55,7 +55,7 @@ start_runs c s n op h = go (start_refusal s n (key_carried c) (value_lent (lent_
 
 -- What is asked for lies in the chip.
 
-edit_asks : (s n len : ℕ) (e : Edit) → (in_region e < n) × (beginsAt e + size_of len e ≤ s) → Inside s n (request_edit s len e)
+edit_asks : (s n len : ℕ) (e : Edit) → (in_region e < n) × (begins_at e + size_of len e ≤ s) → Inside s n (request_edit s len e)
 edit_asks s n len (Edit.Lay r o) (number, fits) = writes r number (le-add_right _ _) fits
 edit_asks s n len (Edit.Kill how r x) (number, fits) = writes r number (le-add_right _ _) fits
 edit_asks s n len (Edit.Erase r) (number, fits) = erases number

@@ -21,7 +21,7 @@ use Rattle.plans.specs.declared.Lent.{Lent}
 use Rattle.plans.specs.declared.Plan.{Plan}
 use Rattle.plans.specs.declared.Then.{Then}
 use Rattle.sweeping.specs.declared.Verdict.{Verdict}
-use Rattle.plans.specs.Answers.{startsAnew}
+use Rattle.plans.specs.Answers.{starts_anew}
 use Rattle.plans.specs.Writes.{value_lent, buffer_lent, first, rest, ends}
 use Rattle.planning.specs.Planning.{need_of, anew, get_plan, place_plan, remove_plan, initialise_plan, plan, given_plan}
 use Rattle.sweeping.specs.Sweeps.{verdict, sweep_plan}
@@ -95,7 +95,7 @@ advance_few op region h = go (first op.plan.edits)
     go First.Nothing = on op.plan.next
 
 answer_few : (n : ℕ) (again : Bool) (answer : Answer) → Few (given_plan n again answer)
-answer_few n again answer = go (again && startsAnew answer)
+answer_few n again answer = go (again && starts_anew answer)
   where
     go : (b : Bool) → Few (cond b (anew n) (ends answer))
     go true = refl

@@ -13,7 +13,7 @@ use Rattle.sights.specs.declared.CEntry.{CEntry}
 use Rattle.sights.specs.Sights.{found_numbers, shown_numbers}
 use Rattle.running.specs.Starts.{get_started, append_started, remove_started, collect_started, initialise_started}
 use Rattle.replies.specs.declared.CAnswer.{CAnswer}
-use Rattle.replies.specs.Answers.{answerNumbers}
+use Rattle.replies.specs.Answers.{answer_numbers}
 use Rattle.operations.specs.declared.COperation.{COperation}
 use Rattle.numbers.specs.declared.CStart.{CStart}
 use Rattle.numbers.specs.declared.CStepped.{CStepped}
@@ -24,29 +24,29 @@ use Rattle.stilefray.specs.Stepped.{step_numbers, step_region, step_buffer}
 
 -- R5.2: get, its answer in numbers (R12.1), and the buffer at exit.
 abbrev pub GetKeyAllows : List ℕ → ℕ → ℕ → ℕ → List ℕ → CAnswer → List ℕ → Type 0
-GetKeyAllows image s n key buffer r buffer' = (r ≡ answerNumbers (get_of image s n key buffer).answer) × (buffer' ≡ (get_of image s n key buffer).buffer)
+GetKeyAllows image s n key buffer r buffer' = (r ≡ answer_numbers (get_of image s n key buffer).answer) × (buffer' ≡ (get_of image s n key buffer).buffer)
 
 -- R5.3, R5.4: append, its answer in numbers, and the image at exit.
 abbrev pub AppendKeyAllows : List ℕ → ℕ → ℕ → ℕ → List ℕ → CAnswer → List ℕ → Type 0
-AppendKeyAllows image s n key value r image' = (r ≡ answerNumbers (append_of image s n key value).answer) × (image' ≡ (append_of image s n key value).image)
+AppendKeyAllows image s n key value r image' = (r ≡ answer_numbers (append_of image s n key value).answer) × (image' ≡ (append_of image s n key value).image)
 
 -- R5.5: invalidate, the same.
 abbrev pub InvalidateKeyAllows : List ℕ → ℕ → ℕ → ℕ → CAnswer → List ℕ → Type 0
 InvalidateKeyAllows image s n key r image' =
-    (r ≡ answerNumbers (remove_of Removal.Invalidate image s n key).answer) × (image' ≡ (remove_of Removal.Invalidate image s n key).image)
+    (r ≡ answer_numbers (remove_of Removal.Invalidate image s n key).answer) × (image' ≡ (remove_of Removal.Invalidate image s n key).image)
 
 -- R5.6: zeroise, the same.
 abbrev pub ZeroiseKeyAllows : List ℕ → ℕ → ℕ → ℕ → CAnswer → List ℕ → Type 0
 ZeroiseKeyAllows image s n key r image' =
-    (r ≡ answerNumbers (remove_of Removal.Zeroise image s n key).answer) × (image' ≡ (remove_of Removal.Zeroise image s n key).image)
+    (r ≡ answer_numbers (remove_of Removal.Zeroise image s n key).answer) × (image' ≡ (remove_of Removal.Zeroise image s n key).image)
 
 -- R5.7, R5.8: collect, the same.
 abbrev pub GarbageCollectAllows : List ℕ → ℕ → ℕ → CAnswer → List ℕ → Type 0
-GarbageCollectAllows image s n r image' = (r ≡ answerNumbers (collect_of image s n).answer) × (image' ≡ (collect_of image s n).image)
+GarbageCollectAllows image s n r image' = (r ≡ answer_numbers (collect_of image s n).answer) × (image' ≡ (collect_of image s n).image)
 
 -- R5.9: initialise, the same.
 abbrev pub InitialiseAllows : List ℕ → ℕ → ℕ → ℕ → CAnswer → List ℕ → Type 0
-InitialiseAllows image s n key r image' = (r ≡ answerNumbers (initialise_of image s n key).answer) × (image' ≡ (initialise_of image s n key).image)
+InitialiseAllows image s n key r image' = (r ≡ answer_numbers (initialise_of image s n key).answer) × (image' ≡ (initialise_of image s n key).image)
 
 -- The stepped form's starts: a refusal's number and the numbers of a running operation.
 

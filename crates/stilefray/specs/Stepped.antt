@@ -10,17 +10,17 @@ use Rattle.steps.specs.Step.{stepped, region_after, buffer_after}
 use Rattle.operations.specs.declared.COperation.{COperation}
 use Rattle.numbers.specs.declared.CStepped.{CStepped}
 use Rattle.operations.specs.declared.unpacks.KnownReply.{KnownReply}
-use Rattle.replies.specs.Answers.{requestNumbers}
+use Rattle.replies.specs.Answers.{request_numbers}
 use Rattle.numbers.specs.Packs.{packed}
 use Rattle.operations.specs.Unpacks.{KnownOp, unpacked, known_reply}
 
 -- R6.11: BadCall leaves the running operation as it was: all its numbers.
 abbrev pub bad_call : COperation → CStepped
-bad_call o = record { op = o; request = requestNumbers (Request.Answers (Refused Refusal.BadCall)) }
+bad_call o = record { op = o; request = request_numbers (Request.Answers (Refused Refusal.BadCall)) }
 
 -- R12.7: what a step hands back, in numbers.
 abbrev pub packed_step : Stepped → CStepped
-packed_step t = record { op = packed t.op; request = requestNumbers t.request }
+packed_step t = record { op = packed t.op; request = request_numbers t.request }
 
 -- R6.11: numbers that stand for no operation (R12.5) or no reply (R12.3) are BadCall, and alter nothing.
 abbrev pub on_known : {A : Type 0} → A → (Op → Reply → A) → KnownOp → KnownReply → A

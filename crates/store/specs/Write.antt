@@ -15,7 +15,7 @@ use Rattle.plans.specs.declared.Answer.{Answer}
 use Rattle.plans.specs.declared.Answer.TheVariants.{Refused}
 use Rattle.plans.specs.declared.Then.{Then}
 use Rattle.plans.specs.declared.Plan.{Plan}
-use Rattle.plans.specs.Answers.{startsAnew}
+use Rattle.plans.specs.Answers.{starts_anew}
 use Rattle.plans.specs.Writes.{listed, applied}
 use Rattle.planning.specs.Planning.{append_plan, remove_plan}
 use Rattle.store.specs.Read.{get_of}
@@ -67,7 +67,7 @@ remove_of how image s n key = remove_by how s image key (hit_of image s n key)
 -- R5.9: by the answer of a get of the main key into an empty buffer. Complete: nothing changes. Refused by 4, 7, 8, 9 or 10: every region is
 -- erased and the main key is appended with an empty value, Written.
 abbrev pub initialise_by : List ℕ → ℕ → ℕ → ℕ → Answer → Done
-initialise_by image s n key answer = cond (startsAnew answer) (append_of (erased (n * s)) s n key []) (record { answer = answer; image = image })
+initialise_by image s n key answer = cond (starts_anew answer) (append_of (erased (n * s)) s n key []) (record { answer = answer; image = image })
 
 -- R5.9: initialise in one call.
 unfoldable pub initialise_of : List ℕ → ℕ → ℕ → ℕ → Done

@@ -1,7 +1,7 @@
 -- `stilefray::image::stilefray_initialise` meets its contract: it is store's call, and its answer in numbers.
 -- Assumes nothing.
 use mathlib.Core.Path.{◌∙◌, ap}
-use Rattle.replies.specs.Answers.{answerNumbers}
+use Rattle.replies.specs.Answers.{answer_numbers}
 use borrow.Author.Rules.{rules}
 use Rattle.stilefray.proofs.image.stilefray_initialise.Statement.{statement}
 use Rattle.stilefray.proofs.image.stilefray_initialise.Tie as tie
@@ -16,7 +16,7 @@ same_length : tie.Need-same-length
 same_length c = search rules
 
 returns : tie.Need-returns
-returns c = let e = c.before.before.before.initialise.ensures in (c.answer-numbers.ensures ∙ ap answerNumbers e.0, e.1)
+returns c = let e = c.before.before.before.initialise.ensures in (c.answer-numbers.ensures ∙ ap answer_numbers e.0, e.1)
 
 pub stilefray-initialise-spec : {M : Type 1} → statement M
 stilefray-initialise-spec =

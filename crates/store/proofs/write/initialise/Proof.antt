@@ -7,7 +7,7 @@ use mathlib.Core.List.{List, []}
 use borrow.Author.Tests.{not-true, not-false}
 use Rattle.chip.specs.Chip.{erased}
 use Rattle.store.specs.Write.{append_of, initialise_of}
-use Rattle.plans.specs.Answers.{startsAnew}
+use Rattle.plans.specs.Answers.{starts_anew}
 use Rattle.store.proofs.Anew.{anew_fits}
 use borrow.Author.Rules.{rules}
 use Rattle.store.proofs.write.initialise.Statement.{statement}
@@ -48,8 +48,8 @@ unfolding initialise_of
 returns-2 c =
     let a = c.before.before.before.before.before.before.before.before.before.before.before.before.before.before.before.before.args in
     let got = c.before.before.before.before.before.before.before.before.before.before.before.before.get_key in
-    let anew : startsAnew got.result ≡ true = sym c.before.before.before.before.before.before.before.before.before.before.starts-anew.ensures ∙ not-false _ c.before.before.before.before.before.before.before.before.before.if1.false in
-    let fit = anew_fits a.image.now a.s a.n a.key [] (ap startsAnew (sym got.ensures.0) ∙ anew) in
+    let anew : starts_anew got.result ≡ true = sym c.before.before.before.before.before.before.before.before.before.before.starts-anew.ensures ∙ not-false _ c.before.before.before.before.before.before.before.before.before.if1.false in
+    let fit = anew_fits a.image.now a.s a.n a.key [] (ap starts_anew (sym got.ensures.0) ∙ anew) in
     let blank : c.before.before.before.before.before.before.before.erase.new.0 ≡ erased (a.n * a.s) = c.before.before.before.before.before.before.before.erase.ensures ∙ ap erased fit.size in
     let done = c.before.before.append-key.ensures in
     rw (sym got.ensures.0, anew) (
