@@ -9,7 +9,7 @@ spec = importlib.util.spec_from_file_location("snake_names", os.path.join(here, 
 first = importlib.util.module_from_spec(spec)
 spec.loader.exec_module(first)
 
-TO = {n: first.snake(n).replace("-", "_") for n in "numberStartsAnew startsAnew answerNumbers serviceNumbers requestNumbers beginsAt fine-first value-long".split()}
+TO = {n: first.snake(n).replace("-", "_") for n in "numberStartsAnew startsAnew answerNumbers serviceNumbers requestNumbers beginsAt fine-first value-long append-no bad-done bad-line by-hit early-left early-refusing get-bound get-fine get-no get-succeeds get-unbound hit-bound reads-if reads-why reason-number refused-when remove-no succeeds-by".split()}
 for path in first.pages():
     old = open(path, encoding="utf-8").read()
     new = first.turned(path, old, TO)

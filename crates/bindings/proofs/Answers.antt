@@ -39,38 +39,38 @@ value_long region x l f = simp (length-take, length-drop) (omega arith)
 
 module _ {s n : ℕ} {image : List ℕ} (w : WellFormed s n image) (key : ℕ) where
   -- a bound key is hit
-  pub hit-bound : {value : List ℕ} (b : Bound s n image key value) → hit_of image s n key ≡ Hit.Live b.region b.rec
+  pub hit_bound : {value : List ℕ} (b : Bound s n image key value) → hit_of image s n key ≡ Hit.Live b.region b.rec
   unfolding hit_of
-  hit-bound b =
+  hit_bound b =
       let k : allowed_key key ≡ true = subst (λ (t : ℕ). allowed_key t ≡ true) b.key_is (w.keys b.region b.rec b.held) in
       rw (fine_first image s n key 0 w.fits k (omega arith), is_found w key Need.Nothing b.region b.rec b.held b.key_is)
 
   -- its record says the value's length, and its sum is right
   long_of : {value : List ℕ} (b : Bound s n image key value) → (value_length b.rec ≡ length value) × (check_sum_fits (bytes_in (region_of s image b.region) b.rec) ≡ true)
   long_of b =
-      let h = held image s n key b.region b.rec (hit-bound b) in
+      let h = held image s n key b.region b.rec (hit_bound b) in
       let long = value_long (region_of s image b.region) b.rec h.found.least (omega (arith, h.found.fits, h.size)) in
       (sym long ∙ ap length b.value_is, w.sums b.region b.rec b.held)
 
-  pub get-bound : {value : List ℕ} (b : Bound s n image key value) (buffer : List ℕ) → length value ≤ length buffer
+  pub get_bound : {value : List ℕ} (b : Bound s n image key value) (buffer : List ℕ) → length value ≤ length buffer
       → get_of image s n key buffer ≡ record { answer = Complete (length value); buffer = value ++ drop (length value) buffer }
   unfolding get_of
-  get-bound {value} b buffer h =
+  get_bound {value} b buffer h =
       let (n, c) = long_of b in
-      rw (hit-bound b, b.value_is, n, le-ltb (length buffer) (length value) h, c)
+      rw (hit_bound b, b.value_is, n, le-ltb (length buffer) (length value) h, c)
 
   pub get_short : {value : List ℕ} (b : Bound s n image key value) (buffer : List ℕ) → length buffer < length value
       → get_of image s n key buffer ≡ record { answer = Refused (Refusal.BufferTooSmall (length value)); buffer = take (length buffer) value }
   unfolding get_of
   get_short {value} b buffer h =
       let (n, c) = long_of b in
-      rw (hit-bound b, b.value_is, n, lt-ltb (length buffer) (length value) h)
+      rw (hit_bound b, b.value_is, n, lt-ltb (length buffer) (length value) h)
 
   -- an unbound key is missed, if it is a key at all
-  pub get-unbound : (buffer : List ℕ) → allowed_key key ≡ true → ((value : List ℕ) → Bound s n image key value → ⊥)
+  pub get_unbound : (buffer : List ℕ) → allowed_key key ≡ true → ((value : List ℕ) → Bound s n image key value → ⊥)
       → get_of image s n key buffer ≡ record { answer = Refused Refusal.KeyNotFound; buffer = buffer }
   unfolding get_of hit_of
-  get-unbound buffer k none = rw (fine_first image s n key 0 w.fits k (omega arith)) (go (lookup_in key Need.Nothing s image (probes key n)) refl)
+  get_unbound buffer k none = rw (fine_first image s n key 0 w.fits k (omega arith)) (go (lookup_in key Need.Nothing s image (probes key n)) refl)
     where
       go : (l : Looked) → lookup_in key Need.Nothing s image (probes key n) ≡ l → got_by s image buffer (hit_by l) ≡ record { answer = Refused Refusal.KeyNotFound; buffer = buffer }
       go (Looked.Live r x) e =

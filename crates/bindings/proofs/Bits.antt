@@ -29,7 +29,7 @@ use Rattle.store.specs.Read.{get_of}
 use Rattle.store.specs.Call.{get, initialise, answer_of}
 use Rattle.pinned.specs.When.{When}
 use Rattle.pinned.proofs.Lines.{line_some}
-use Rattle.pinned.proofs.Answers.{reason-number, reads-if}
+use Rattle.pinned.proofs.Answers.{reason_number, reads_if}
 use Rattle.pinned.proofs.Theorems.{refused_leaves, initialise_written}
 use Rattle.bindings.specs.Calls.{OnlyCleared}
 use Rattle.bindings.proofs.Images.{same_or_not}
@@ -129,7 +129,7 @@ initialise_writes image s n key = go (starts_anew (get_of image s n key []).answ
 
 -- which has the image's length: a call that is not refused has an image of the chip's size
 pub initialise_length : (image : List ℕ) (s n key : ℕ) → length (initialise_of image s n key).image ≡ length image
-initialise_length image s n key = ⊎_elim goes stays (reason-number image s n (initialise key))
+initialise_length image s n key = ⊎_elim goes stays (reason_number image s n (initialise key))
   where
     stays : When image s n (refusal (answer_of (initialise key) image s n)) (initialise key) → length (initialise_of image s n key).image ≡ length image
     stays w = ap length (refused_leaves (initialise key) image s n (line_some w).0)
@@ -137,5 +137,5 @@ initialise_length image s n key = ⊎_elim goes stays (reason-number image s n (
     goes : refusal (answer_of (initialise key) image s n) ≡ 0 → length (initialise_of image s n key).image ≡ length image
     goes z =
         ⊎_elim (λ e. ap length e)
-        (λ e. ap length e ∙ length-written (erased (n * s)) (home key n * s) (record_bytes key []) ∙ length-erased (n * s) ∙ sym (reads-if image s n (initialise key) z).fits.size)
+        (λ e. ap length e ∙ length-written (erased (n * s)) (home key n * s) (record_bytes key []) ∙ length-erased (n * s) ∙ sym (reads_if image s n (initialise key) z).fits.size)
         (initialise_writes image s n key)

@@ -134,7 +134,7 @@ refusal_alters_none {s} {n} {image} w (Call.initialise key) h = refused_leaves (
 -- Of an unbound key: KeyNotFound, and the buffer stays.
 pub get_finds : {s n : ℕ} {image : List ℕ} → WellFormed s n image → (key : ℕ) (value buffer : List ℕ) → Bound s n image key value → length value ≤ length buffer
     → get_of image s n key buffer ≡ record { answer = Complete (length value); buffer = value ++ drop (length value) buffer }
-get_finds w key value buffer b h = Answers.get-bound w key b buffer h
+get_finds w key value buffer b h = Answers.get_bound w key b buffer h
 
 pub get_fills : {s n : ℕ} {image : List ℕ} → WellFormed s n image → (key : ℕ) (value buffer : List ℕ) → Bound s n image key value → length buffer < length value
     → get_of image s n key buffer ≡ record { answer = Refused (Refusal.BufferTooSmall (length value)); buffer = take (length buffer) value }
@@ -142,7 +142,7 @@ get_fills w key value buffer b h = Answers.get_short w key b buffer h
 
 pub get_misses : {s n : ℕ} {image : List ℕ} → WellFormed s n image → (key : ℕ) (buffer : List ℕ) → allowed_key key ≡ true → ((value : List ℕ) → Bound s n image key value → ⊥)
     → get_of image s n key buffer ≡ record { answer = Refused Refusal.KeyNotFound; buffer = buffer }
-get_misses w key buffer k none = Answers.get-unbound w key buffer k none
+get_misses w key buffer k none = Answers.get_unbound w key buffer k none
 
 -- R11.7: append of a bound key is KeyAlreadyExists, and the image stays.
 pub append_refuses : {s n : ℕ} {image : List ℕ} → WellFormed s n image → (key : ℕ) (held value : List ℕ) → Bound s n image key held → length value ≤ 4079

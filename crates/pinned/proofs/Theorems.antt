@@ -42,7 +42,7 @@ use Rattle.pinned.specs.Left.{Dead, erased_by, Collected, left_by, Appended, Rem
 use Rattle.pinned.specs.Words.{Decides, HasRoom, FirstRoom}
 use Rattle.pinned.proofs.Lines.{line_some, line_reads, initialise_line, get_line}
 use Rattle.pinned.proofs.Calls.{got_live, collect_is, initialise_left, initialise_anew}
-use Rattle.pinned.proofs.Answers.{refused-when, answered, reason-number, reads-if, get-fine, succeeds}
+use Rattle.pinned.proofs.Answers.{refused_when, answered, reason_number, reads_if, get_fine, succeeds}
 use Rattle.pinned.proofs.Swept.{first_bad}
 use Rattle.pinned.proofs.Lookups.{end_passed, passed_end, live_is, bad_is, through_is, room_at, room_nowhere}
 use Rattle.pinned.proofs.Buffers.{refused_buffer}
@@ -53,24 +53,24 @@ use Rattle.pinned.proofs.Collected.{erased_are, collected_at, stands_from, freed
 
 -- R6.1 to R6.10: a call on any image gives refusal k exactly when its rule says so (`When`), and only then.
 pub exactly_when : (k : ℕ) (c : Call) (image : List ℕ) (s n : ℕ) → 1 ≤ k → (refusal (answer_of c image s n) ≡ k) ↔ When image s n k c
-exactly_when k c image s n l = (λ e. ⊎_elim (λ z. absurd (omega arith)) (subst (λ (j : ℕ). When image s n j c) e) (reason-number image s n c), answered image s n)
+exactly_when k c image s n l = (λ e. ⊎_elim (λ z. absurd (omega arith)) (subst (λ (j : ℕ). When image s n j c) e) (reason_number image s n c), answered image s n)
 
 -- R7.1: where no rule refuses it, the call gives the one answer that is its own: Complete with a length, Written, Freed with a number of bytes.
 pub succeeds_else : (c : Call) (image : List ℕ) (s n : ℕ) → ((k : ℕ) → When image s n k c → ⊥) → Succeeds c (answer_of c image s n)
-succeeds_else c image s n h = ⊎_elim (succeeds image s n c) (λ w. absurd (h _ w)) (reason-number image s n c)
+succeeds_else c image s n h = ⊎_elim (succeeds image s n c) (λ w. absurd (h _ w)) (reason_number image s n c)
 
 -- R6.11, R6.12: these are the stepped form's: no call in one gives them.
 pub at_most_ten : (c : Call) (image : List ℕ) (s n : ℕ) → refusal (answer_of c image s n) ≤ 10
-at_most_ten c image s n = ⊎_elim (λ z. omega arith) (λ w. (line_some w).1) (reason-number image s n c)
+at_most_ten c image s n = ⊎_elim (λ z. omega arith) (λ w. (line_some w).1) (reason_number image s n c)
 
 -- R5.9: initialise refuses by 1 and 2 alone.
 pub initialise_refuses : (key : ℕ) (image : List ℕ) (s n : ℕ) → refusal (answer_of (initialise key) image s n) ≤ 2
-initialise_refuses key image s n = ⊎_elim (λ z. omega arith) initialise_line (reason-number image s n (initialise key))
+initialise_refuses key image s n = ⊎_elim (λ z. omega arith) initialise_line (reason_number image s n (initialise key))
 
 -- R5.9: get never refuses by 3, 5 or 6: the refusals 4, 7, 8, 9 and 10 are all that initialise's get can give behind 1 and 2.
 pub get_refuses : (key : ℕ) (buffer image : List ℕ) (s n : ℕ)
     → (refusal (answer_of (get key buffer) image s n) ≡ 3 → ⊥) × (refusal (answer_of (get key buffer) image s n) ≡ 5 → ⊥) × (refusal (answer_of (get key buffer) image s n) ≡ 6 → ⊥)
-get_refuses key buffer image s n = ⊎_elim (λ z. (λ e. omega arith, λ e. omega arith, λ e. omega arith)) get_line (reason-number image s n (get key buffer))
+get_refuses key buffer image s n = ⊎_elim (λ z. (λ e. omega arith, λ e. omega arith, λ e. omega arith)) get_line (reason_number image s n (get key buffer))
 
 -- The ends of a lookup that these rules name.
 
@@ -124,7 +124,7 @@ append_takes_first key len image s n h = ap place_plan (gathered_first key len s
 
 -- R7.3: a refused call alters no byte of the image, but for the regions that collect erased before. Initialise's own refusals come first.
 pub refused_leaves : (c : Call) (image : List ℕ) (s n : ℕ) → 1 ≤ refusal (answer_of c image s n) → image_after c image s n ≡ left_by c image s n
-refused_leaves c image s n l = ap (λ (d : Done). d.image) (refused-when image s n ((exactly_when _ c image s n l).0 refl)).done
+refused_leaves c image s n l = ap (λ (d : Done). d.image) (refused_when image s n ((exactly_when _ c image s n l).0 refl)).done
 
 -- R5.8: a bad place that decides ends collect with its refusal. The regions before it are collected already; it and those after it stand.
 pub collect_refused : {f : Fault} (image : List ℕ) (s n : ℕ) → Fits image s n → (b : FirstBad image s n f)
@@ -156,7 +156,7 @@ pub get_answers : (key : ℕ) (buffer image : List ℕ) (s n : ℕ) → refusal 
     × (lookup_in key Need.Nothing s image (probes key n) ≡ Looked.Live r x)
     × (value_length x ≤ length buffer)
     × (check_sum_fits (bytes_in (region_of s image r) x) ≡ true))
-get_answers key buffer image s n h = get-fine image s n key buffer h
+get_answers key buffer image s n h = get_fine image s n key buffer h
 
 -- R5.2: get of a live record x of region r, of which the value's bytes are `value_in`: its length less 15 of them (R4.7).
 module _ (key : ℕ) (buffer image : List ℕ) (s n r : ℕ) (x : Record) (reads : Reads image s n (get key buffer)) (live : lookup_in key Need.Nothing s image (probes key n) ≡ Looked.Live r x) where
@@ -203,7 +203,7 @@ pub freed_is_counted : (image : List ℕ) (s n bytes : ℕ) → answer_of collec
     × ((q : ℕ) → Memᴰ q (erased_by image s n) ↔ ((q < n) × Dead (region_of s image q)))
     × ((q : ℕ) → q < n → Collected s (region_of s image q) (region_of s (image_after collect image s n) q))
 freed_is_counted image s n bytes h =
-    let fits = (reads-if image s n collect (ap refusal h)).fits in
+    let fits = (reads_if image s n collect (ap refusal h)).fits in
     let (count, none) = freed_all image s n fits h in (
       count,
       λ q. let e = erased_are image s n fits q in (

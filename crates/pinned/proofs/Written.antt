@@ -39,7 +39,7 @@ use Rattle.store.specs.Call.{append, remove, answer_of, image_after}
 use Rattle.pinned.specs.When.{Reads}
 use Rattle.pinned.specs.Left.{Appended, Removed}
 use Rattle.pinned.proofs.Calls.{append_placed, removed_live}
-use Rattle.pinned.proofs.Answers.{Appending, appending, Removing, removing, not_refused, reads-if}
+use Rattle.pinned.proofs.Answers.{Appending, appending, Removing, removing, not_refused, reads_if}
 
 module _ (image : List ℕ) (s n key : ℕ) (value : List ℕ) (v : Bytes value) (reads : Reads image s n (append key value)) where
   appended_at : {seen : Seen} (r o : ℕ) → lookup_in key (Need.Room (record_length (length value))) s image (probes key n) ≡ Looked.Through seen
@@ -77,10 +77,10 @@ module _ (image : List ℕ) (s n key : ℕ) (value : List ℕ) (v : Bytes value)
 
 pub append_wrote : (image : List ℕ) (s n key : ℕ) (value : List ℕ) → Bytes value → answer_of (append key value) image s n ≡ Written
     → Appended image s n key value (image_after (append key value) image s n)
-append_wrote image s n key value v h = let reads = reads-if image s n (append key value) (ap refusal h) in go reads (appending image s n key value reads)
+append_wrote image s n key value v h = let reads = reads_if image s n (append key value) (ap refusal h) in go reads (appending image s n key value reads)
   where
     go : Reads image s n (append key value) → Appending image s n key value → Appended image s n key value (image_after (append key value) image s n)
-    go reads (Appending.append-no (k, w)) = absurd (not_refused image s n (append key value) (ap refusal h) w)
+    go reads (Appending.append_no (k, w)) = absurd (not_refused image s n (append key value) (ap refusal h) w)
     go reads (Appending.appends seen r o e f) = appended_at image s n key value v reads r o e f
 
 -- The removals.
@@ -148,8 +148,8 @@ module _ (how : Removal) (image : List ℕ) (s n key : ℕ) (v : Bytes image) (r
       }
 
 pub remove_wrote : (how : Removal) (image : List ℕ) (s n key : ℕ) → Bytes image → answer_of (remove how key) image s n ≡ Written → Removed how image s n key (image_after (remove how key) image s n)
-remove_wrote how image s n key v h = let reads = reads-if image s n (remove how key) (ap refusal h) in go reads (removing image s n how key reads)
+remove_wrote how image s n key v h = let reads = reads_if image s n (remove how key) (ap refusal h) in go reads (removing image s n how key reads)
   where
     go : Reads image s n (remove how key) → Removing image s n how key → Removed how image s n key (image_after (remove how key) image s n)
-    go reads (Removing.remove-no (k, w)) = absurd (not_refused image s n (remove how key) (ap refusal h) w)
+    go reads (Removing.remove_no (k, w)) = absurd (not_refused image s n (remove how key) (ap refusal h) w)
     go reads (Removing.removes r x e) = removed_at how image s n key v reads r x e

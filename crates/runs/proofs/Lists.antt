@@ -42,7 +42,7 @@ use Rattle.pinned.specs.When.{Reads, NotBad, FirstBad, Succeeds}
 use Rattle.pinned.specs.Words.{Decides, FirstRoom}
 use Rattle.pinned.proofs.Early.{Early, early_is}
 use Rattle.pinned.proofs.Lookups.{passed_end, live_is, bad_is, through_is, room_at}
-use Rattle.pinned.proofs.Answers.{Appending, appending, append-no, appends, Removing, removing, remove-no, removes, reads-if, not_refused, succeeds}
+use Rattle.pinned.proofs.Answers.{Appending, appending, append_no, appends, Removing, removing, remove_no, removes, reads_if, not_refused, succeeds}
 use Rattle.pinned.proofs.Calls.{removed_live, append_placed}
 use Rattle.pinned.proofs.Blank.{blank_append}
 use Rattle.pinned.proofs.Swept.{Judged, judged}
@@ -131,12 +131,12 @@ module _ (image : List ℕ) (s n key : ℕ) where
   append_list value h = go (appending image s n key value reads)
     where
       reads : Reads image s n (append key value)
-      reads = reads-if image s n (append key value) (ap refusal h)
+      reads = reads_if image s n (append key value) (ap refusal h)
 
       go : Appending image s n key value
           → (r : ℕ) × (o : ℕ) × FirstRoom image s (record_length (length value)) (probes key n) r o
           × (services (append key value) image s n ≡ map Request.Read (probes key n) ++ Request.Write o (o + record_length (length value)) (r * s + o) ∷ [])
-      go (append-no (k, w)) = absurd (not_refused image s n (append key value) (ap refusal h) w)
+      go (append_no (k, w)) = absurd (not_refused image s n (append key value) (ap refusal h) w)
       go (appends seen r o e f) =
           let place : seen.room ≡ Room.At r o true = gathered_first key (record_length (length value)) s image (probes key n) e ∙ f in
           let wrote : edits s (length value) (append_plan (lookup_in key (room value) s image (probes key n))) ≡ Request.Write o (o + record_length (length value)) (r * s + o) ∷ [] =
@@ -174,12 +174,12 @@ module _ (image : List ℕ) (s n key : ℕ) where
   remove_list how h = go (removing image s n how key reads)
     where
       reads : Reads image s n (remove how key)
-      reads = reads-if image s n (remove how key) (ap refusal h)
+      reads = reads_if image s n (remove how key) (ap refusal h)
 
       go : Removing image s n how key
           → (r : ℕ) × (x : Record) × (d : Decides image s key (probes key n) r (Event.Live x))
           × (services (remove how key) image s n ≡ map Request.Read (d.before ++ r ∷ []) ++ Request.Write (kill_place how x) (kill_place how x + kill_length how x) (r * s + kill_place how x) ∷ [])
-      go (remove-no (k, w)) = absurd (not_refused image s n (remove how key) (ap refusal h) w)
+      go (remove_no (k, w)) = absurd (not_refused image s n (remove how key) (ap refusal h) w)
       go (removes r x e) =
           let d = (live_is image s key Need.Nothing (probes key n) r x).0 e in
           let looked : regions_read key Need.Nothing s image (probes key n) ≡ d.before ++ r ∷ [] = reads_live image s key Need.Nothing (probes key n) d in
@@ -216,7 +216,7 @@ module _ (image : List ℕ) (s n key : ℕ) where
   initialise_list len h = by_anew fine (go (starts_anew (get_of image s n key []).answer) refl) ∙ append-nil (services (get key []) image s n)
     where
       fine : Reads image s n (initialise key)
-      fine = reads-if image s n (initialise key) (ap refusal h)
+      fine = reads_if image s n (initialise key) (ap refusal h)
 
       go : (t : Bool) → starts_anew (get_of image s n key []).answer ≡ t → starts_anew (get_of image s n key []).answer ≡ false
       go false e = e
@@ -230,7 +230,7 @@ module _ (image : List ℕ) (s n key : ℕ) where
   initialise_anew_list h = by_anew fine (go (starts_anew (get_of image s n key []).answer) refl) ∙ ap (λ (l : List Request). services (get key []) image s n ++ l) anew_list
     where
       fine : Reads image s n (initialise key)
-      fine = reads-if image s n (initialise key) (ap refusal h)
+      fine = reads_if image s n (initialise key) (ap refusal h)
 
       -- its get answers Complete or refuses
       completes : {a : Answer} → Succeeds (get key []) a → a ≡ Written → ⊥
@@ -324,6 +324,6 @@ collect_bad_list {f} image s n fits b =
 pub collect_list : (image : List ℕ) (s n bytes : ℕ) → answer_of collect image s n ≡ Freed bytes → Sweeps s image (numbers 0 n) (services collect image s n)
 unfolding services
 collect_list image s n bytes h =
-    let fits = (reads-if image s n collect (ap refusal h)).fits in
+    let fits = (reads_if image s n collect (ap refusal h)).fits in
     let (_, good) = freed_all image s n fits h in
     rw (fits_geometry fits) (sweep_list s image n 0 image (λ q l. refl) (λ q l m. good q (omega arith)))

@@ -30,7 +30,7 @@ use Rattle.store.specs.Write.{append_of, initialise_of}
 use Rattle.store.specs.Call.{Call, get, append, remove, collect, initialise, answer_of, image_after}
 use Rattle.pinned.specs.When.{Reads, FirstBad}
 use Rattle.pinned.specs.Words.{Decides, FirstRoom}
-use Rattle.pinned.proofs.Answers.{reads-if}
+use Rattle.pinned.proofs.Answers.{reads_if}
 use Rattle.bindings.specs.WellFormed.{WellFormed, Bound}
 use Rattle.bindings.specs.Calls.{Typed, Spares, OnlyCleared}
 use Rattle.bindings.proofs.Bits.{same_cleared}
@@ -234,7 +234,7 @@ bound_is_found {s} {n} {image} w key value b events p buffer region lent l long 
     found = get_finds held.0 key value buffer held.1 l
 
     reads : Reads later s n (get key buffer)
-    reads = reads-if later s n (get key buffer) (ap (λ (g : Got). refusal g.answer) found)
+    reads = reads_if later s n (get key buffer) (ap (λ (g : Got). refusal g.answer) found)
 
     few : length (services (get key buffer) later s n) ≤ n
     few = at_most (get key buffer) later s n
