@@ -21,8 +21,7 @@ pub use stepped::{
 };
 
 // R5.10: the checksum alone, of any bytes.
-#[unsafe(no_mangle)]
-pub extern "C" fn stilefray_checksum(bytes: &[u8]) -> u32
+pub fn stilefray_checksum(bytes: &[u8]) -> u32
     ensures { ChecksumAllows bytes.now result }
 {
     crc32::checksum(bytes)

@@ -10,48 +10,42 @@ use refusals::Refusal;
 use running::Request;
 
 // R8.2, R12.6: get's start, in numbers. `capacity` is the length of its buffer.
-#[unsafe(no_mangle)]
-pub extern "C" fn stilefray_start_get(s: usize, n: usize, key: u64, capacity: usize) -> CStart
+pub fn stilefray_start_get(s: usize, n: usize, key: u64, capacity: usize) -> CStart
     ensures { StartGetAllows s n key capacity result }
 {
     numbers::pack_start(running::start_get(s, n, key, capacity))
 }
 
 // R8.2, R12.6: append's start. `len` is the length of its value.
-#[unsafe(no_mangle)]
-pub extern "C" fn stilefray_start_append(s: usize, n: usize, key: u64, len: usize) -> CStart
+pub fn stilefray_start_append(s: usize, n: usize, key: u64, len: usize) -> CStart
     ensures { StartAppendAllows s n key len result }
 {
     numbers::pack_start(running::start_append(s, n, key, len))
 }
 
 // R8.2, R12.6: invalidate's start.
-#[unsafe(no_mangle)]
-pub extern "C" fn stilefray_start_invalidate(s: usize, n: usize, key: u64) -> CStart
+pub fn stilefray_start_invalidate(s: usize, n: usize, key: u64) -> CStart
     ensures { StartInvalidateAllows s n key result }
 {
     numbers::pack_start(running::start_invalidate(s, n, key))
 }
 
 // R8.2, R12.6: zeroise's start.
-#[unsafe(no_mangle)]
-pub extern "C" fn stilefray_start_zeroise(s: usize, n: usize, key: u64) -> CStart
+pub fn stilefray_start_zeroise(s: usize, n: usize, key: u64) -> CStart
     ensures { StartZeroiseAllows s n key result }
 {
     numbers::pack_start(running::start_zeroise(s, n, key))
 }
 
 // R8.2, R12.6: collect's start.
-#[unsafe(no_mangle)]
-pub extern "C" fn stilefray_start_collect(s: usize, n: usize) -> CStart
+pub fn stilefray_start_collect(s: usize, n: usize) -> CStart
     ensures { StartCollectAllows s n result }
 {
     numbers::pack_start(running::start_collect(s, n))
 }
 
 // R8.2, R12.6: initialise's start, with the main key.
-#[unsafe(no_mangle)]
-pub extern "C" fn stilefray_start_initialise(s: usize, n: usize, key: u64) -> CStart
+pub fn stilefray_start_initialise(s: usize, n: usize, key: u64) -> CStart
     ensures { StartInitialiseAllows s n key result }
 {
     numbers::pack_start(running::start_initialise(s, n, key))
@@ -68,8 +62,7 @@ fn bad_call(op: COperation) -> CStepped
 }
 
 // R8.3, R12.7: the step on what the numbers stand for.
-#[unsafe(no_mangle)]
-pub extern "C" fn stilefray_step(
+pub fn stilefray_step(
     op: COperation,
     reply: u32,
     region: &mut [u8],

@@ -1,0 +1,26 @@
+// Looking into a chip that lies in memory: nothing is written, and nothing is copied.
+ghost use Rattle.stilefray.specs.Allows.{FindValueAllows, RecordAtAllows};
+
+use sights::{CEntry, CFound};
+
+// R16.1, R16.2: where a key's value lies.
+#[unsafe(no_mangle)]
+pub extern "C" fn stilefray_find_value(image: &[u8], s: usize, n: usize, key: u64) -> CFound
+    ensures { FindValueAllows image.now s n key result }
+{
+    stilefray::stilefray_find_value(image, s, n, key)
+}
+
+// R16.4, R16.5: what stands at a place of a region, and where to go on.
+#[unsafe(no_mangle)]
+pub extern "C" fn stilefray_record_at(
+    image: &[u8],
+    s: usize,
+    n: usize,
+    region: usize,
+    place: usize,
+) -> CEntry
+    ensures { RecordAtAllows image.now s n region place result }
+{
+    stilefray::stilefray_record_at(image, s, n, region, place)
+}
