@@ -102,6 +102,7 @@ placed_member {s = s} {i = i} {r = r} (next {r = q} {l = l} u m) v p = go (ltb s
         Memᴰ.head (one_region (rw same at v) u)
 
 placed_of : {h w s r : ℕ} {l : List ℕ} → Placed h w s l → Memᴰ r l → (i : ℕ) × (s ≤ i) × At h w i r
+placed_of {h = h} {w = w} {r = r} (end {s = s} _) m = elim m [ ]
 placed_of {s = s} (next v m) (Memᴰ.head e) = (s, omega arith, rw e v)
 placed_of (next v m) (Memᴰ.tail t) =
     let (i, p, u) = placed_of m t in

@@ -1,0 +1,28 @@
+-- `advancing::advance::next_plan` meets its contract: what each reply leaves.
+-- Assumes nothing.
+use mathlib.Core.Path.{refl, ◌∙◌, ap}
+use Rattle.plans.specs.declared.Plan.{Plan}
+use Rattle.advancing.specs.Advance.{given, filled}
+use Rattle.advancing.proofs.Keeps.{advance_gives}
+use Rattle.advancing.proofs.Others.{failed}
+use Rattle.advancing.proofs.advance.next_plan.Goals as goal
+
+pub returns-in-Begin : goal.returns-in-Begin
+returns-in-Begin c = rw c.in-Begin.is (refl, refl)
+
+pub returns-in-NotReady : goal.returns-in-NotReady
+returns-in-NotReady c = rw c.in-NotReady.is (refl, refl)
+
+-- TODO
+pub returns-in_default-reply-2 : goal.returns-in_default-reply-2
+returns-in_default-reply-2 c = rw (failed c.args.reply c.TODO.before.before.before.match.keys2 c.TODO.before.before.match2.keys2 c.TODO.before.match3.keys2) (c.refuse.ensures, refl)
+
+pub give-requires : goal.give-requires
+give-requires c = let a = c.args in rw c.advanced.ensures (advance_gives a.op a.region.now c.requires.0 c.requires.1)
+
+pub returns : goal.returns
+returns c =
+    let a = c.args in
+    let e = c.advanced.ensures in
+    rw c.in-Done.is
+    (c.give.ensures.0 ∙ ap (given a.op.n a.op.lent a.region.now) e, c.give.ensures.1 ∙ ap (λ (p : Plan). filled a.op.lent a.region.now p a.buffer.now) e)

@@ -1,0 +1,25 @@
+-- `august::table::rows` meets its contract, that it is safe and ends. The loop's invariant: the place lies in the region.
+-- The measure is what is left of the region. Assumes nothing.
+use Prim.Native.Nat.{◌+◌, ◌-◌, ◌≤◌}
+use native.Mathlib.Omega.{arith}
+use mathlib.Core.Path.{◌∙◌, sym}
+use lib.ListN.{length}
+use Rattle.region.proofs.Steps.{found_fits}
+use Rattle.august.proofs.table.rows.Goals as goal
+use Rattle.august.proofs.table.rows.Goals.{In-Found}
+
+-- the record that is found lies in the region
+fits : (c : In-Found) → (15 ≤ c.in-Found.rec.len) × (c.loop-rec.at + c.in-Found.rec.len ≤ length c.args.region.now)
+fits c = found_fits c.args.region.now c.loop-rec.at c.in-Found.rec (sym c.look-met.ensures ∙ c.in-Found.is)
+
+pub record_row-requires : goal.record_row-requires
+record_row-requires c = (fits (goal.at.record_row-requires c).In-Found).0
+
+pub overflow_add-at : goal.overflow_add-at
+overflow_add-at c = omega (arith, fits (goal.at.overflow_add-at c).In-Found)
+
+pub loop-rec-smaller : goal.loop-rec-smaller
+loop-rec-smaller c = omega (arith, fits (goal.at.loop-rec-smaller c).In-Found)
+
+pub loop-rec-preserved : goal.loop-rec-preserved
+loop-rec-preserved c = (fits (goal.at.loop-rec-preserved c).In-Found).1

@@ -1,0 +1,25 @@
+-- `laying::lend::lay` meets its contract: what the operation waits to have written is laid, and nothing else.
+-- Assumes nothing.
+use mathlib.Core.Path.{sym, ◌∙◌}
+use Rattle.plans.specs.Writes.{value_lent, value_of}
+use Rattle.plans.proofs.Facts.{edits_facts, short_facts}
+use Rattle.running.proofs.Rules.{plan_of}
+use Rattle.laying.proofs.Others.{next_unlaid}
+use Rattle.laying.proofs.lend.lay.Goals as goal
+
+pub returns-in_default : goal.returns-in_default
+returns-in_default c =
+    let a = c.args in
+    rw (c.if-op.false, sym c.first_of-first.ensures ∙ c.in_default.is)
+    (next_unlaid a.op.key (value_of a.op.lent a.value.now) a.op.n a.op.plan.next a.region.now)
+
+pub lay_edit-requires : goal.lay_edit-requires
+lay_edit-requires c =
+    let op = c.args.op in
+    let good = plan_of op c.requires.0 in
+    rw (c.requires.2, c.requires.1) (short_facts op.lent good.value_short_lem, (edits_facts op.s op.n (value_lent op.lent) op.plan.edits good.edits_good (sym c.first_of-first.ensures ∙ c.in-Do.is)).0)
+
+pub returns : goal.returns
+returns c =
+    rw (c.if-op.false, sym c.first_of-first.ensures ∙ c.in-Do.is)
+    c.lay_edit.ensures

@@ -1,0 +1,18 @@
+-- `lending::locate` meets its contract: its test is the definition's.
+-- Assumes nothing.
+use mathlib.Core.Path.{sym, ◌∙◌}
+use borrow.Author.Tests.{not-true, not-false}
+use Rattle.lending.proofs.Lies.{wrong_sum, right_sum}
+use Rattle.lending.proofs.locate.Goals as goal
+
+-- src/lib.rt:34:9
+pub returns-then-not-is_sound : goal.returns-then-not-is_sound
+returns-then-not-is_sound c =
+    let a = c.args in
+    c.nowhere.ensures ∙ wrong_sum a.region.now a.start a.rec (sym c.is_sound.ensures ∙ not-true _ c.if-not-is_sound.true-raw)
+
+-- src/lib.rt:29:1
+pub returns : goal.returns
+returns c =
+    let a = c.args in
+    right_sum a.region.now a.start a.rec (sym c.is_sound.ensures ∙ not-false _ c.if-not-is_sound.false-raw)

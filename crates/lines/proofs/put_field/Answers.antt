@@ -1,0 +1,16 @@
+-- `lines::put_field` meets its contract: the digits that are counted are the definition's, and at most five.
+-- Assumes nothing.
+use native.Mathlib.Omega.{arith}
+use Rattle.lines.proofs.Written.{counted, short_digits}
+use Rattle.lines.proofs.put_field.Goals as goal
+
+pub put_ended-requires : goal.put_ended-requires
+put_ended-requires c =
+    let d = c.decimal-k in
+    omega (arith, short_digits c.args.n d.result d.new.1.0 (omega arith) d.ensures.1.0 d.ensures.1.1)
+
+pub returns : goal.returns
+returns c =
+    let a = c.args in
+    let d = c.decimal-k in
+    counted a.out.now _ a.at _ a.n d.result a.end d.new.1.0 d.ensures.1.0 d.ensures.1.1 c.put_ended.ensures

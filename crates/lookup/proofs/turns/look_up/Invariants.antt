@@ -1,0 +1,14 @@
+-- `lookup::turns::look_up` meets its contract. The loop's invariant: the regions that are left, with what is gathered, decide as all do.
+-- The measure is how many regions are left. Assumes nothing.
+use Prim.Native.Nat.{◌≤◌, ◌-◌}
+use mathlib.Core.Path.{◌≡◌}
+use lib.ListN.{drop}
+use Rattle.probe.specs.Probe.{probes}
+use Rattle.lookup.specs.Turns.{look_from, lookup_in}
+use Rattle.lookup.proofs.turns.look_up.Given as goal
+
+abbrev pub invariant-loop-i : goal.invariant-loop-i
+invariant-loop-i l = (l.i ≤ l.n) × (look_from l.seen l.key l.need l.s l.image (drop l.i (probes l.key l.n)) ≡ lookup_in l.key l.need l.s l.image (probes l.key l.n))
+
+abbrev pub decreases-loop-i : goal.decreases-loop-i
+decreases-loop-i l = l.n - l.i

@@ -1,0 +1,62 @@
+-- `region::walk::find` meets its contract. The loop's invariant: the search from the place finds what the whole search finds.
+-- The measure is what is left of the region. Assumes nothing.
+use Prim.Native.Nat.{ℕ, ◌≤◌, ◌-◌, ◌+◌}
+use native.Mathlib.Omega.{arith}
+use mathlib.Core.Path.{◌≡◌, refl, sym, ◌∙◌}
+use mathlib.Core.Bool.{Bool, true, false, cond}
+use mathlib.Core.List.{List}
+use lib.ListN.{length}
+use Rattle.format.specs.declared.Record.{Record}
+use Rattle.region.specs.declared.Met.{Met}
+use Rattle.region.specs.declared.Event.{Event}
+use Rattle.region.specs.Walk.{met_at, is_wanted}
+use Rattle.region.proofs.Steps.{found_fits}
+use Rattle.region.proofs.Search.{first_from, first_stop, first_found}
+use borrow.Author.Rules.{rules}
+use Rattle.region.proofs.walk.find.Goals as goal
+use Rattle.region.proofs.walk.find.Goals.{In-Found}
+
+pub loop-stop-init : goal.loop-stop-init
+loop-stop-init c = (search rules, refl)
+
+-- what stands at the place, where it is a record
+region : In-Found → List ℕ
+region c = c.args.region.now
+
+test : In-Found → Record → Bool
+test c = is_wanted c.args.want
+
+place : In-Found → ℕ
+place c = c.loop-stop.at
+
+found : In-Found → Record
+found c = c.in-Found.rec
+
+is : (c : In-Found) → met_at (region c) (place c) ≡ Met.Found (found c)
+is c = sym c.look-met.ensures ∙ c.in-Found.is
+
+fits : (c : In-Found) → (15 ≤ (found c).len) × (place c + (found c).len ≤ length (region c))
+fits c = found_fits (region c) (place c) (found c) (is c)
+
+next : (c : In-Found) (b : Bool) → test c (found c) ≡ b
+    → first_from (test c) (region c) 0 ≡ cond b (Event.Live (found c)) (first_from (test c) (region c) (place c + (found c).len))
+next c b h = sym c.loop-stop.invariant.1 ∙ first_found (test c) (region c) (place c) (found c) b (is c) h
+
+pub overflow_add-at : goal.overflow_add-at
+overflow_add-at c = omega (arith, fits (goal.at.overflow_add-at c).In-Found)
+
+pub loop-stop-smaller : goal.loop-stop-smaller
+loop-stop-smaller c = omega (arith, fits (goal.at.loop-stop-smaller c).In-Found)
+
+pub loop-stop-preserved : goal.loop-stop-preserved
+loop-stop-preserved c =
+    ((fits (goal.at.loop-stop-preserved c).In-Found).1, sym (next (goal.at.loop-stop-preserved c).In-Found false (sym c.by.ensures ∙ c.if-by.false)))
+
+pub returns-in-Stop : goal.returns-in-Stop
+returns-in-Stop c =
+    let l = c.loop-stop in
+    let a = c.args in
+    c.event.ensures ∙ sym (first_stop (is_wanted a.want) a.region.now l.at c.in-Stop.stop (sym c.look-met.ensures ∙ c.in-Stop.is)) ∙ l.invariant.1
+
+pub returns-then-by : goal.returns-then-by
+returns-then-by c = sym (next (goal.at.returns-then-by c).In-Found true (sym c.by.ensures ∙ c.if-by.true))

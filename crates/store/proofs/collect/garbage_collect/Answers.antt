@@ -1,0 +1,50 @@
+-- `store::collect::garbage_collect` meets its contract. The loop's invariant: what is left to do is what the whole would do.
+-- The measure is how many regions are left. Assumes nothing.
+use Prim.Native.Nat.{◌-◌}
+use native.Mathlib.Omega.{arith}
+use mathlib.Core.Path.{refl, sym, ◌∙◌}
+use borrow.Author.Rules.{rules}
+use borrow.Author.Tests.{not-true, not-false}
+use Rattle.chip.proofs.Image.{region_inside, region_small}
+use Rattle.store.specs.Collect.{collect_of}
+use Rattle.store.proofs.Sweep.{swept_start, swept_judged, swept_stands, swept_erase, swept_bad, swept_end}
+use Rattle.store.proofs.collect.garbage_collect.Goals as goal
+
+pub returns-then-not-fits : goal.returns-then-not-fits
+unfolding collect_of
+returns-then-not-fits c = rw (sym c.fits.ensures ∙ not-true _ c.if-not-fits.true-raw) (refl, refl)
+
+pub loop-r-init : goal.loop-r-init
+loop-r-init c = swept_start (sym c.fits.ensures ∙ not-false _ c.if-not-fits.false-raw)
+
+pub overflow_mul-a : goal.overflow_mul-a
+overflow_mul-a c = omega (arith, region_small c.loop-r.invariant.fits c.if-r-n.false)
+
+pub overflow_add-e : goal.overflow_add-e
+overflow_add-e c = omega (arith, region_small c.loop-r.invariant.fits c.if-r-n.false)
+
+pub slice_bounds-judge-end : goal.slice_bounds-judge-end
+slice_bounds-judge-end c = omega (arith, region_inside c.loop-r.invariant.fits c.if-r-n.false)
+
+pub judge-verdict-requires : goal.judge-verdict-requires
+judge-verdict-requires c = swept_judged c.loop-r.invariant c.if-r-n.false
+
+pub loop-r-preserved-in-Stands : goal.loop-r-preserved-in-Stands
+loop-r-preserved-in-Stands c = search (swept_stands, rules)
+
+pub erase_region-requires : goal.erase_region-requires
+erase_region-requires c = (c.loop-r.invariant.fits, c.if-r-n.false)
+
+pub overflow_add-freed : goal.overflow_add-freed
+overflow_add-freed c =
+    omega (arith, region_small c.loop-r.invariant.fits c.if-r-n.false, c.loop-r.invariant.few)
+
+pub loop-r-preserved : goal.loop-r-preserved
+loop-r-preserved c = search (swept_erase, rules)
+
+pub returns-then-r-n : goal.returns-then-r-n
+returns-then-r-n c = swept_end c.loop-r.invariant c.if-r-n.true
+
+pub returns-in-Bad : goal.returns-in-Bad
+returns-in-Bad c =
+    swept_bad c.loop-r.invariant c.if-r-n.false c.judge-verdict.ensures c.in-Bad.is c.of.ensures

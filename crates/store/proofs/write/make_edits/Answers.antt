@@ -1,0 +1,20 @@
+-- `store::write::make_edits` meets its contract. The loop's invariant: what is left, on the image as it now is, makes what the whole makes.
+-- The measure is how many edits are left. Assumes nothing.
+use borrow.Author.Rules.{rules}
+use Rattle.store.proofs.Edits.{left_start, left_end, left_fits, left_next, left_less}
+use Rattle.store.proofs.write.make_edits.Goals as goal
+
+pub loop-edit-init : goal.loop-edit-init
+loop-edit-init c = left_start c.args.key c.args.value.now c.requires.0 c.requires.2
+
+pub returns-in-Nothing : goal.returns-in-Nothing
+returns-in-Nothing c = search (left_end, rules)
+
+pub make_edit-requires : goal.make_edit-requires
+make_edit-requires c = let l = c.loop-edit.invariant in (l.fits, c.requires.1, left_fits l c.first_of-first.ensures c.in-Do.is)
+
+pub loop-edit-smaller : goal.loop-edit-smaller
+loop-edit-smaller c = search (left_less, rules)
+
+pub loop-edit-preserved : goal.loop-edit-preserved
+loop-edit-preserved c = search (left_next, rules)
