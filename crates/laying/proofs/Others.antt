@@ -5,7 +5,6 @@ use mathlib.Core.Path.{◌≡◌, refl}
 use mathlib.Core.List.{List, [], ◌∷◌}
 use mathlib.Core.Logic.{⊎_elim}
 use borrow.Author.Tests.{eqb-false}
-use types.Run.{OneOf}
 use denote.Enum.Declared.{tag_of}
 use Rattle.plans.specs.declared.Lent.{Lent}
 use Rattle.plans.specs.declared.Then.{Then}
@@ -19,9 +18,9 @@ use Rattle.running.specs.contracts.Reply as reply-type
 use Rattle.laying.specs.Lend.{laid_for, laid, laid_on}
 
 -- no value is lent
-pub not_value : (lent : Lent) (value : List ℕ) → OneOf (0 ∷ 2 ∷ []) (tag_of lent-type.the_type lent) → value_of lent value ≡ []
+pub not_value : (lent : Lent) (value : List ℕ) → ((len : ℕ) → lent ≡ Lent.Value len → ⊥) → value_of lent value ≡ []
 not_value Lent.Nothing value k = refl
-not_value (Lent.Value len) value k = absurd (⊎_elim (eqb-false 1 0 refl) (eqb-false 1 2 refl) k)
+not_value (Lent.Value len) value k = absurd (k len refl)
 not_value (Lent.Buffer len) value k = refl
 
 -- nothing is to be written before what follows
@@ -32,8 +31,8 @@ next_unlaid key value n (Then.Sweep r k) region = refl
 next_unlaid key value n (Then.Gives r x anew) region = refl
 
 -- a reply that is not "not ready"
-pub laid_else : (y : Reply) (op : Op) (region value : List ℕ) → OneOf (0 ∷ 1 ∷ 3 ∷ []) (tag_of reply-type.the_type y) → laid_on y op region value ≡ laid op region value
+pub laid_else : (y : Reply) (op : Op) (region value : List ℕ) → (y ≡ Reply.NotReady → ⊥) → laid_on y op region value ≡ laid op region value
 laid_else Reply.Begin op region value k = refl
 laid_else Reply.Done op region value k = refl
-laid_else Reply.NotReady op region value k = absurd (⊎_elim (eqb-false 2 0 refl) (⊎_elim (eqb-false 2 1 refl) (eqb-false 2 3 refl)) k)
+laid_else Reply.NotReady op region value k = absurd (k refl)
 laid_else Reply.Failed op region value k = refl

@@ -8,7 +8,6 @@ use mathlib.Core.List.{List, [], ◌∷◌}
 use mathlib.Core.Logic.{⊎_elim}
 use lib.ListN.{length}
 use borrow.Author.Tests.{eqb-false}
-use types.Run.{OneOf}
 use denote.Enum.Declared.{tag_of}
 use Rattle.chip.specs.Geometry.{region_of}
 use Rattle.format.specs.declared.Record.{Record}
@@ -75,8 +74,8 @@ lent image s n key len q = go (hit_of image s n key) refl q
     go (Hit.Live r x) e q = found r x e (sound_in (region_of s image r) x) refl q
 
 -- what is no Complete lends nothing
-pub not_complete : (image : List ℕ) (place : ℕ) (answer : Answer) → OneOf (1 ∷ 2 ∷ 3 ∷ []) (tag_of the_type answer) → [] ≡ part_at image place answer
-not_complete image place (Complete len) k = absurd (⊎_elim (eqb-false 0 1 refl) (⊎_elim (eqb-false 0 2 refl) (eqb-false 0 3 refl)) k)
+pub not_complete : (image : List ℕ) (place : ℕ) (answer : Answer) → ((len : ℕ) → answer ≡ Complete len → ⊥) → [] ≡ part_at image place answer
+not_complete image place (Complete len) k = absurd (k len refl)
 not_complete image place Written k = refl
 not_complete image place (Freed bytes) k = refl
 not_complete image place (Refused w) k = refl

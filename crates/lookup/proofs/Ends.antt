@@ -28,8 +28,8 @@ use Rattle.lookup.specs.Turns.{lookup_in, refused_by, hit_by, hit_after, hit_of}
 use Rattle.lookup.proofs.Scan.{Found, found, fine, gathered_first, room_from}
 
 -- an end that is no live record is the refusal of what looks for one
-pub not_live : (looked : Looked) → OneOf (1 ∷ 2 ∷ []) (tag_of the_type looked) → hit_by looked ≡ Hit.Refused (refused_by looked)
-not_live (Looked.Live r x) k = absurd (⊎_elim (eqb-false 0 1 refl) (eqb-false 0 2 refl) k)
+pub not_live : (looked : Looked) → ((r : ℕ) (x : Record) → looked ≡ Looked.Live r x → ⊥) → hit_by looked ≡ Hit.Refused (refused_by looked)
+not_live (Looked.Live r x) k = absurd (k r x refl)
 not_live (Looked.Bad f p) k = refl
 not_live (Looked.Through seen) k = refl
 

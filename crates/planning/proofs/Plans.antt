@@ -7,7 +7,6 @@ use mathlib.Core.Bool.{Bool, true, false, cond}
 use mathlib.Core.List.{[], ◌∷◌}
 use mathlib.Core.Logic.{⊎_elim}
 use borrow.Author.Tests.{lt-ltb, le-leb, eqb-false}
-use types.Run.{OneOf}
 use denote.Enum.Declared.{tag_of}
 use Rattle.format.specs.declared.Record.{Record}
 use Rattle.format.specs.declared.Fault.{Fault}
@@ -33,10 +32,10 @@ use Rattle.planning.proofs.Shapes.{renews, Shape, is_refused, is_given, is_remov
 use Rattle.planning.proofs.Gathered.{by_room}
 
 -- An end that is not through all regions is append's refusal.
-pub not_through : (looked : Looked) → OneOf (0 ∷ 1 ∷ []) (tag_of the_type looked) → append_plan looked ≡ refuses (refused_by looked)
+pub not_through : (looked : Looked) → ((seen : Seen) → looked ≡ Looked.Through seen → ⊥) → append_plan looked ≡ refuses (refused_by looked)
 not_through (Looked.Live r x) k = refl
 not_through (Looked.Bad f p) k = refl
-not_through (Looked.Through seen) k = absurd (⊎_elim (eqb-false 2 0 refl) (eqb-false 2 1 refl) k)
+not_through (Looked.Through seen) k = absurd (k seen refl)
 
 -- What a plan keeps before its value is given: it may rest, or it gives one. `Sound` is `PlanFits` with this in place of `rests`.
 abbrev pub settles : Lent → First → Then → Bool

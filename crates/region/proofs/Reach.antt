@@ -86,7 +86,7 @@ split {r} {p} [] x b (past {o} h k) =
       stands = subst (λ (q : ℕ). met_at r q ≡ Met.Found x) e h;
       from = subst (λ (q : ℕ). Reach r (q + x.len) p b) e k;
     }
-split (y ∷ a) x b (past h k) = let s = split a x b k in record { to = past h s.to; stands = s.stands; from = s.from }
+split {r = r} {o = o} {p = p} (y ∷ a) x b (past h k) = let s = split {o = o + y.len} a x b k in record { to = past h s.to; stands = s.stands; from = s.from }
 
 pub split_records : (r : List ℕ) (a : List Record) (x : Record) (b : List Record) → records r ≡ a ++ x ∷ b → Split r 0 (place_of (ending r)) a x b
 split_records r a x b e = split a x b (subst (λ (xs : List Record). Reach r 0 (place_of (ending r)) xs) e (reach_stop r))

@@ -8,7 +8,6 @@ use mathlib.Core.List.{List, [], ◌∷◌}
 use mathlib.Core.Logic.{⊎_elim}
 use lib.ListN.{length}
 use borrow.Author.Tests.{lt-ltb, eqb-false}
-use types.Run.{OneOf}
 use denote.Enum.Declared.{tag_of}
 use Rattle.chip.specs.Geometry.{Fits}
 use Rattle.probe.specs.Probe.{probes}
@@ -41,8 +40,8 @@ removal_fits Removal.Invalidate x l = omega arith
 removal_fits Removal.Zeroise x l = omega (arith, kill_length_lem Removal.Zeroise x l)
 
 -- A plan that does not end with an answer.
-pub not_end : (next : Then) → OneOf (1 ∷ 2 ∷ 3 ∷ []) (tag_of the_type next) → Refused Refusal.BadCall ≡ end_of next
-not_end (Then.Ends answer) k = absurd (⊎_elim (eqb-false 0 1 refl) (⊎_elim (eqb-false 0 2 refl) (eqb-false 0 3 refl)) k)
+pub not_end : (next : Then) → ((answer : Answer) → next ≡ Then.Ends answer → ⊥) → Refused Refusal.BadCall ≡ end_of next
+not_end (Then.Ends answer) k = absurd (k answer refl)
 not_end (Then.Seek aim i seen) k = refl
 not_end (Then.Sweep r k) h = refl
 not_end (Then.Gives r x again) k = refl

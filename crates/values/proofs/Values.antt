@@ -3,10 +3,10 @@
 use Prim.Native.Nat.{ℕ, ◌+◌, ◌-◌, ◌≤◌, ◌<◌}
 use native.Mathlib.Nat.{add-sub_cancel_left}
 use native.Mathlib.Omega.{arith}
-use mathlib.Core.Path.{◌≡◌, ◌∙◌, ap}
-use mathlib.Core.List.{List, ◌++◌, append-nil}
-use lib.ListN.{length, take, drop, length-drop}
-use lib.Seq.{take-take, take-length, drop-length, drop-drop, length-take-le}
+use mathlib.Core.Path.{◌≡◌, sym, ◌∙◌, ap}
+use mathlib.Core.List.{List, ◌++◌}
+use lib.ListN.{length, take, drop}
+use lib.Seq.{take-take, drop-drop}
 use borrow.Author.Tests.{lt-ltb, le-ltb}
 use Rattle.chip.proofs.Lists.{drop-take}
 use Rattle.format.specs.declared.Record.{Record}
@@ -17,10 +17,6 @@ use Rattle.values.specs.Values.{read_buffer}
 abbrev value_part : List ℕ → Record → ℕ → List ℕ
 value_part region x m = take (x.at + 11 + m - (x.at + 11)) (drop (x.at + 11) region)
 
--- what `bytes::copy` leaves
-abbrev copied : List ℕ → List ℕ → List ℕ
-copied src dst = take (length src) src ++ drop (length src) dst
-
 module _ (region : List ℕ) (x : Record) (buffer : List ℕ) (least : 15 ≤ x.len) (fits : x.at + x.len ≤ length region) where
   -- the front of the value, where it lies in the region
   value_front : (m : ℕ) → m ≤ value_length x → take m (value_in region x) ≡ take m (drop (x.at + 11) region)
@@ -29,21 +25,15 @@ module _ (region : List ℕ) (x : Record) (buffer : List ℕ) (least : 15 ≤ x.
       ∙ ap (take m) (drop-take 11 x.len (drop x.at region) ∙ ap (take (x.len - 11)) (drop-drop 11 x.at region))
       ∙ take-take m (x.len - 11) (drop (x.at + 11) region) (omega arith)
 
-  copied_part : (m : ℕ) → m ≤ value_length x → copied (value_part region x m) buffer ≡ take m (value_in region x) ++ drop m buffer
-  copied_part m l =
-      let e : length (take m (drop (x.at + 11) region)) ≡ m = length-take-le m (drop (x.at + 11) region) (omega (arith, length-drop (x.at + 11) region)) in
-      rw (take-length, add-sub_cancel_left (x.at + 11) m, e, value_front m l)
+  part_is : (m : ℕ) → m ≤ value_length x → value_part region x m ≡ take m (value_in region x)
+  part_is m l = rw (add-sub_cancel_left (x.at + 11) m) (sym (value_front m l))
 
   -- A buffer that is too short for the value is filled with its first bytes.
-  pub copied_front : {exit : List ℕ} → length buffer < value_length x → exit ≡ copied (value_part region x (length buffer)) buffer → exit ≡ read_buffer region x buffer
-  copied_front l e =
-      e
-      ∙ copied_part (length buffer) (omega arith)
-      ∙ rw (lt-ltb (length buffer) (value_length x) l, drop-length buffer, append-nil)
+  pub copied_front : {exit : List ℕ} → length buffer < value_length x → exit ≡ value_part region x (length buffer) → exit ≡ read_buffer region x buffer
+  copied_front l e = e ∙ part_is (length buffer) (omega arith) ∙ rw (lt-ltb (length buffer) (value_length x) l)
 
   -- A buffer that takes it all has it at its front, and keeps the bytes after it.
-  pub copied_whole : {exit : List ℕ} → value_length x ≤ length buffer → exit ≡ copied (value_part region x (value_length x)) buffer → exit ≡ read_buffer region x buffer
+  pub copied_whole : {front : List ℕ} → value_length x ≤ length buffer → front ≡ value_part region x (value_length x) → front ++ drop (value_length x) buffer ≡ read_buffer region x buffer
   copied_whole l e =
-      e
-      ∙ copied_part (value_length x) (omega arith)
+      ap (λ (part : List ℕ). part ++ drop (value_length x) buffer) (e ∙ part_is (value_length x) (omega arith))
       ∙ rw (le-ltb (length buffer) (value_length x) l, take-take (value_length x) (value_length x) (drop 11 (take x.len (drop x.at region))) (omega arith))

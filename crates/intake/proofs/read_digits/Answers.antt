@@ -17,7 +17,7 @@ loop-end-init c = reading_starts
 pub returns-then-not-is_digit : goal.returns-then-not-is_digit
 returns-then-not-is_digit c = reading_stops c.loop-end.invariant c.loop-end-test.true (sym c.is_digit.ensures ∙ not-true _ c.if-not-is_digit.true-raw)
 
-byte : Else-not-is_digit → ℕ
+abbrev byte : Else-not-is_digit → ℕ
 byte c = get_or c.args.input.now c.loop-end.end 0
 
 digit-here : (c : Else-not-is_digit) → is_digit (byte c) ≡ true

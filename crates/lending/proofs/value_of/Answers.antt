@@ -40,12 +40,12 @@ returns-in-Complete c =
     ∙ ap (part_at image found.place) (sym c.in-Complete.is)
     ∙ ap (λ (l : Located). part_at image l.place l.answer) c.find_value-found.ensures
 
--- TODO
+
 -- src/lib.rt:68:1
 pub returns : goal.returns
 returns c =
     let a = c.args in
     let image = c.args.image.now in
     let found = c.find_value-found.result in
-    not_complete image found.place found.answer c.TODO.before.match.keys2
+    not_complete image found.place found.answer c.in_default.not-Complete
     ∙ ap (λ (l : Located). part_at image l.place l.answer) c.find_value-found.ensures

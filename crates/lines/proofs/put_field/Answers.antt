@@ -7,10 +7,10 @@ use Rattle.lines.proofs.put_field.Goals as goal
 pub put_ended-requires : goal.put_ended-requires
 put_ended-requires c =
     let d = c.decimal-k in
-    omega (arith, short_digits c.args.n d.result d.new.1.0 (omega arith) d.ensures.1.0 d.ensures.1.1)
+    omega (arith, short_digits c.args.n d.result d.new.out (omega arith) d.ensures.len d.ensures.digits)
 
 pub returns : goal.returns
 returns c =
     let a = c.args in
     let d = c.decimal-k in
-    counted a.out.now _ a.at _ a.n d.result a.end d.new.1.0 d.ensures.1.0 d.ensures.1.1 c.put_ended.ensures
+    counted a.out.now _ a.at _ a.n d.result a.end d.new.out d.ensures.len d.ensures.digits c.put_ended.ensures

@@ -1,13 +1,12 @@
--- `placing::lay` meets its contract: the part that was lent is back, with the new bytes at its front.
+-- `placing::lay` meets its contract: the part that was lent is back, and it is the new bytes.
 -- Assumes nothing.
-use Prim.Native.Nat.{◌-◌}
+use Prim.Native.Nat.{◌+◌, ◌-◌}
 use native.Mathlib.Omega.{arith}
 use lib.ListN.{length}
-use Rattle.chip.proofs.Lists.{part_stored}
+use Rattle.chip.proofs.Lists.{part_put}
 use Rattle.placing.proofs.lay.Goals as goal
 
--- TODO
 pub returns : goal.returns
 returns c =
     let a = c.args in
-    rw c.TODO.before.before.copy.ensures.1 (part_stored a.region.now a.new.now a.at (length a.region.now - a.at) (omega arith) (omega arith))
+    rw c.copy_from_slice.ensures.after (part_put a.region.now a.new.now a.at (a.at + length a.new.now - a.at) (omega arith) (omega arith))

@@ -4,14 +4,14 @@ use mathlib.Core.Path.{sym, ◌∙◌}
 use Rattle.rule.proofs.Others.{not_asked, is_asked}
 use Rattle.rule.proofs.reply_fits.Goals as goal
 
--- TODO
+
 pub returns-in-Ends : goal.returns-in-Ends
 returns-in-Ends c =
     let op = c.args.op in
     rw (c.if-op.false, sym c.first_of-first.ensures ∙ c.in_default.is)
     (not_asked op.key op.n op.plan.next c.args.reply c.TODO.match2.keys1)
 
--- TODO
+
 pub returns-in-Seek : goal.returns-in-Seek
 returns-in-Seek c =
     let op = c.args.op in

@@ -5,12 +5,12 @@ use mathlib.Core.Path.{◌∙◌, ap}
 use Rattle.sights.specs.Sights.{flag}
 use Rattle.sights.proofs.record_numbers.Goals as goal
 
--- TODO
+
 -- src/lib.rt:70:1
 pub returns : goal.returns
 returns c =
     let a = c.args in
-    let p = c.TODO.before.before.before.number_of_lem.ensures ∙ ap flag c.is_live.ensures in
+    let p = c.number_of.ensures ∙ ap flag c.is_live.ensures in
     λ i.
     record {
       kind = 1;

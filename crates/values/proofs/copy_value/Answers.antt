@@ -1,11 +1,15 @@
 -- `values::copy_value` meets its contract: what is copied is the front of the value, as much of it as the buffer takes.
 -- Assumes nothing.
+use native.Mathlib.Omega.{arith}
 use Rattle.values.proofs.Values.{copied_front, copied_whole}
-use borrow.Author.Rules.{rules}
 use Rattle.values.proofs.copy_value.Goals as goal
 
 pub returns-then-most-len : goal.returns-then-most-len
-returns-then-most-len c = search (copied_front, rules)
+returns-then-most-len c =
+    let a = c.args in
+    copied_front a.region.now a.rec a.buffer.now c.requires.0 c.requires.1 (omega arith) c.copy_from_slice.ensures.after
 
 pub returns : goal.returns
-returns c = search (copied_whole, rules)
+returns c =
+    let a = c.args in
+    copied_whole a.region.now a.rec a.buffer.now c.requires.0 c.requires.1 (omega arith) c.copy_from_slice-2.ensures.after

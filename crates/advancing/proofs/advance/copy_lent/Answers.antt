@@ -3,9 +3,9 @@
 use Rattle.advancing.proofs.Others.{not_buffer}
 use Rattle.advancing.proofs.advance.copy_lent.Goals as goal
 
--- TODO
+
 pub returns-in_default : goal.returns-in_default
-returns-in_default c = let a = c.args in not_buffer a.lent a.region.now a.rec a.buffer.now c.TODO.match.keys2
+returns-in_default c = let a = c.args in not_buffer a.lent a.region.now a.rec a.buffer.now c.in_default.not-Buffer
 
 pub copy_value-requires : goal.copy_value-requires
 copy_value-requires c = c.requires

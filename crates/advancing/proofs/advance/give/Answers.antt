@@ -8,9 +8,9 @@ use Rattle.values.specs.Values.{read_answer}
 use Rattle.advancing.proofs.Others.{not_gives}
 use Rattle.advancing.proofs.advance.give.Goals as goal
 
--- TODO
+
 pub returns-in_default : goal.returns-in_default
-returns-in_default c = let a = c.args in not_gives a.n a.lent a.region.now a.plan a.plan.next a.buffer.now c.TODO.match.keys2
+returns-in_default c = let a = c.args in not_gives a.n a.lent a.region.now a.plan a.plan.next a.buffer.now c.in_default.not-Gives
 
 pub copy_lent-requires : goal.copy_lent-requires
 copy_lent-requires c =

@@ -13,7 +13,7 @@ returns-in-Begin c = rw c.in-Begin.is (refl, refl)
 pub returns-in-NotReady : goal.returns-in-NotReady
 returns-in-NotReady c = rw c.in-NotReady.is (refl, refl)
 
--- TODO
+
 pub returns-in_default-reply-2 : goal.returns-in_default-reply-2
 returns-in_default-reply-2 c = rw (failed c.args.reply c.TODO.before.before.before.match.keys2 c.TODO.before.before.match2.keys2 c.TODO.before.match3.keys2) (c.refuse.ensures, refl)
 

@@ -3,9 +3,9 @@
 use Rattle.laying.proofs.Others.{not_value}
 use Rattle.laying.proofs.lend.lay_new.Goals as goal
 
--- TODO
+
 pub returns-in_default : goal.returns-in_default
-returns-in_default c = rw (not_value c.args.lent c.args.value.now c.TODO.before.before.before.before.before.match.keys2) c.lay_record.ensures
+returns-in_default c = rw (not_value c.args.lent c.args.value.now c.in_default.not-Value) c.lay_record.ensures
 
 pub lay_record-requires-2 : goal.lay_record-requires-2
 lay_record-requires-2 c = rw c.in-Value.is at c.requires

@@ -4,13 +4,13 @@ use mathlib.Core.Path.{sym, ◌∙◌}
 use borrow.Author.Tests.{ne_eqb, not-true, not-false}
 use Rattle.operations.proofs.unpacks.own_next.Goals as goal
 
--- TODO
-pub returns-then-not-own_aim : goal.returns-then-not-own_aim
-returns-then-not-own_aim c = rw (c.if-o-eq-NEXT_SEEK.true, sym c.TODO.before.own_aim_lem.ensures ∙ not-true _ c.if-not-own_aim.true-raw)
 
--- TODO
+pub returns-then-not-own_aim : goal.returns-then-not-own_aim
+returns-then-not-own_aim c = rw (c.if-o-eq-NEXT_SEEK.true, sym c.own_aim.ensures ∙ not-true _ c.if-not-own_aim.true-raw)
+
+
 pub returns-then-o-eq-NEXT_SEEK : goal.returns-then-o-eq-NEXT_SEEK
-returns-then-o-eq-NEXT_SEEK c = rw (c.if-o-eq-NEXT_SEEK.true, sym c.TODO.before.before.own_aim_lem.ensures ∙ not-false _ c.if-not-own_aim.false-raw) c.own_gathered.ensures
+returns-then-o-eq-NEXT_SEEK c = rw (c.if-o-eq-NEXT_SEEK.true, sym c.own_aim.ensures ∙ not-false _ c.if-not-own_aim.false-raw) c.own_gathered.ensures
 
 pub returns-then-o-eq-NEXT_SWEEP : goal.returns-then-o-eq-NEXT_SWEEP
 returns-then-o-eq-NEXT_SWEEP c = rw c.if-o-eq-NEXT_SWEEP.true c.is_plain.ensures

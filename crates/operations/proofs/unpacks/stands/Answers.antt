@@ -9,22 +9,22 @@ pub returns-then-o-ne-LAYOUT : goal.returns-then-o-ne-LAYOUT
 unfolding standing
 returns-then-o-ne-LAYOUT c = rw (ne_eqb _ _ c.if-o-ne-LAYOUT.true)
 
--- TODO
+
 pub returns-then-not-own_next : goal.returns-then-not-own_next
 unfolding standing
-returns-then-not-own_next c = rw (c.if-o-ne-LAYOUT.false, sym c.TODO.before.own_next_lem.ensures ∙ not-true _ c.if-not-own_next.true-raw)
+returns-then-not-own_next c = rw (c.if-o-ne-LAYOUT.false, sym c.own_next.ensures ∙ not-true _ c.if-not-own_next.true-raw)
 
--- TODO
+
 pub returns-then-not-own_fresh : goal.returns-then-not-own_fresh
 unfolding standing
-returns-then-not-own_fresh c = rw (c.if-o-ne-LAYOUT.false, sym c.TODO.before.before.before.own_next_lem.ensures ∙ not-false _ c.if-not-own_next.false-raw, sym c.own_fresh.ensures ∙ not-true _ c.if-not-own_fresh.true-raw)
+returns-then-not-own_fresh c = rw (c.if-o-ne-LAYOUT.false, sym c.own_next.ensures ∙ not-false _ c.if-not-own_next.false-raw, sym c.own_fresh.ensures ∙ not-true _ c.if-not-own_fresh.true-raw)
 
--- TODO
+
 pub returns-then-not-own_lent : goal.returns-then-not-own_lent
 unfolding standing
-returns-then-not-own_lent c = rw (c.if-o-ne-LAYOUT.false, sym c.TODO.before.before.before.before.before.own_next_lem.ensures ∙ not-false _ c.if-not-own_next.false-raw, sym c.own_fresh.ensures ∙ not-false _ c.if-not-own_fresh.false-raw, sym c.TODO.before.own_lent_lem.ensures ∙ not-true _ c.if-not-own_lent.true-raw)
+returns-then-not-own_lent c = rw (c.if-o-ne-LAYOUT.false, sym c.own_next.ensures ∙ not-false _ c.if-not-own_next.false-raw, sym c.own_fresh.ensures ∙ not-false _ c.if-not-own_fresh.false-raw, sym c.own_lent.ensures ∙ not-true _ c.if-not-own_lent.true-raw)
 
--- TODO
+
 pub returns : goal.returns
 unfolding standing
-returns c = rw (c.if-o-ne-LAYOUT.false, sym c.TODO.before.before.before.before.before.before.own_next_lem.ensures ∙ not-false _ c.if-not-own_next.false-raw, sym c.own_fresh.ensures ∙ not-false _ c.if-not-own_fresh.false-raw, sym c.TODO.before.before.own_lent_lem.ensures ∙ not-false _ c.if-not-own_lent.false-raw) c.TODO.own_edit_lem.ensures
+returns c = rw (c.if-o-ne-LAYOUT.false, sym c.own_next.ensures ∙ not-false _ c.if-not-own_next.false-raw, sym c.own_fresh.ensures ∙ not-false _ c.if-not-own_fresh.false-raw, sym c.own_lent.ensures ∙ not-false _ c.if-not-own_lent.false-raw) c.own_edit.ensures

@@ -10,9 +10,9 @@ use Rattle.plans.proofs.Facts.{short_facts}
 use Rattle.plans.proofs.fits.plan_fits.Goals as goal
 use Rattle.plans.proofs.fits.plan_fits.Goals.{After-edits_fit, Else-not-edits_fit, Else-not-value_short}
 
--- TODO
+
 short-here : (c : Else-not-value_short) → value_short c.args.lent ≡ true
-short-here c = sym c.TODO.before.value_short_lem.ensures ∙ not-false _ c.if-not-value_short.false-raw
+short-here c = sym c.value_short.ensures ∙ not-false _ c.if-not-value_short.false-raw
 
 edits-are : (c : After-edits_fit) → let a = c.args in edits_fit a.s a.n (value_lent a.lent) a.plan.edits ≡ c.edits_fit.result
 edits-are c = let a = c.args in sym (c.edits_fit.ensures ∙ ap (λ (len : ℕ). edits_fit a.s a.n len a.plan.edits) c.value.ensures)
@@ -20,9 +20,9 @@ edits-are c = let a = c.args in sym (c.edits_fit.ensures ∙ ap (λ (len : ℕ).
 edits-here : (c : Else-not-edits_fit) → let a = c.args in edits_fit a.s a.n (value_lent a.lent) a.plan.edits ≡ true
 edits-here c = edits-are (goal.at.Else-not-edits_fit c).After-edits_fit ∙ not-false _ c.if-not-edits_fit.false-raw
 
--- TODO
+
 pub returns-then-not-value_short : goal.returns-then-not-value_short
-returns-then-not-value_short c = rw (sym c.TODO.before.value_short_lem.ensures ∙ not-true _ c.if-not-value_short.true-raw)
+returns-then-not-value_short c = rw (sym c.value_short.ensures ∙ not-true _ c.if-not-value_short.true-raw)
 
 pub edits_fit-requires : goal.edits_fit-requires
 edits_fit-requires c = rw c.value.ensures (short_facts c.args.lent (short-here (goal.at.edits_fit-requires c).Else-not-value_short))

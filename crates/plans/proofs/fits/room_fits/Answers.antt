@@ -1,6 +1,6 @@
 use Rattle.plans.proofs.fits.room_fits.Goals as goal
 
--- TODO
+
 -- src/fits.rt:106:1
 pub returns-in-At : goal.returns-in-At
-returns-in-At c = rw (c.in-At.is, c.TODO.place_fits_lem.ensures)
+returns-in-At c = rw (c.in-At.is, c.place_fits.ensures)

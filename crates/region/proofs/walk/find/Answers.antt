@@ -20,16 +20,16 @@ pub loop-stop-init : goal.loop-stop-init
 loop-stop-init c = (search rules, refl)
 
 -- what stands at the place, where it is a record
-region : In-Found → List ℕ
+abbrev region : In-Found → List ℕ
 region c = c.args.region.now
 
-test : In-Found → Record → Bool
+abbrev test : In-Found → Record → Bool
 test c = is_wanted c.args.want
 
-place : In-Found → ℕ
+abbrev place : In-Found → ℕ
 place c = c.loop-stop.at
 
-found : In-Found → Record
+abbrev found : In-Found → Record
 found c = c.in-Found.rec
 
 is : (c : In-Found) → met_at (region c) (place c) ≡ Met.Found (found c)

@@ -20,9 +20,9 @@ inside c =
 pub overflow_add-from : goal.overflow_add-from
 overflow_add-from c = omega (arith, inside (goal.at.overflow_add-from c).After-kill_offset, c.kill_offset.ensures)
 
--- TODO
+
 pub overflow_add-to : goal.overflow_add-to
-overflow_add-to c = omega (arith, inside (goal.at.overflow_add-to c).After-kill_offset, c.kill_offset.ensures, c.TODO.kill_length_lem.ensures)
+overflow_add-to c = omega (arith, inside (goal.at.overflow_add-to c).After-kill_offset, c.kill_offset.ensures, c.kill_length.ensures)
 
 pub overflow_mul-result : goal.overflow_mul-result
 overflow_mul-result c = omega (arith, inside (goal.at.overflow_mul-result c).After-kill_offset)
@@ -30,6 +30,6 @@ overflow_mul-result c = omega (arith, inside (goal.at.overflow_mul-result c).Aft
 pub overflow_add-result : goal.overflow_add-result
 overflow_add-result c = omega (arith, inside (goal.at.overflow_add-result c).After-kill_offset, c.kill_offset.ensures)
 
--- TODO
+
 pub returns : goal.returns
-returns c = rw (c.TODO.kill_length_lem.ensures, c.kill_offset.ensures)
+returns c = rw (c.kill_length.ensures, c.kill_offset.ensures)

@@ -3,6 +3,6 @@
 use Rattle.store.proofs.Ends.{not_end}
 use Rattle.store.proofs.write.end_of.Goals as goal
 
--- TODO
+
 pub returns-in_default : goal.returns-in_default
-returns-in_default c = not_end c.args.next c.TODO.match.keys2
+returns-in_default c = not_end c.args.next c.in_default.not-Ends
