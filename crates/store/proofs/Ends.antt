@@ -25,6 +25,7 @@ use Rattle.refusals.specs.Refusals.{first_refusal}
 use Rattle.lookup.specs.Turns.{lookup_in, hit_of}
 use Rattle.lookup.proofs.Scan.{fine}
 use Rattle.lookup.proofs.Ends.{Placed, held, placed_at}
+use Rattle.plans.specs.declared.Answer.{Answer}
 use Rattle.plans.specs.declared.Answer.TheVariants.{Refused}
 use Rattle.plans.specs.declared.Then.{Then}
 use Rattle.plans.specs.declared.Plan.{Plan}

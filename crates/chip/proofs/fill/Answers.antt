@@ -1,6 +1,6 @@
 -- `chip::fill` meets its contract. The loop's invariant: the places passed hold the value, the others what they held.
 -- The measure is what is left of the length. Assumes nothing.
-use Prim.Native.Nat.{ℕ, ◌-◌}
+use Prim.Native.Nat.{ℕ}
 use native.Mathlib.Omega.{arith}
 use mathlib.Core.Path.{◌≡◌, ap, ◌∙◌}
 use mathlib.Core.List.{List, append-nil}

@@ -1,6 +1,6 @@
 -- `chip::write` meets its contract. The loop's invariant: what is left to write, written, gives the whole.
 -- The measure is what is left of the new bytes. Assumes nothing.
-use Prim.Native.Nat.{◌-◌, ◌+◌}
+use Prim.Native.Nat.{◌+◌}
 use native.Mathlib.Nat.{add-zero}
 use mathlib.Core.Path.{refl, sym, ◌∙◌}
 use lib.ListN.{length-set}

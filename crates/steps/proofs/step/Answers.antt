@@ -4,7 +4,7 @@ use mathlib.Core.Path.{◌≡◌, sym, ◌∙◌, ap}
 use borrow.Author.Tests.{not-true, not-false}
 use Rattle.running.specs.declared.Op.{Op}
 use Rattle.running.specs.Waits.{with_plan, request_of}
-use Rattle.rule.proofs.Calls.{fits_ruled, value_lent}
+use Rattle.rule.proofs.Calls.{fits_ruled, value_lent_lem}
 use Rattle.laying.specs.Lend.{laid_on}
 use Rattle.steps.specs.Step.{next_op, stepped, region_after, buffer_after}
 use Rattle.steps.proofs.Keeps.{next_ruled}
@@ -26,7 +26,7 @@ pub lay_on-requires : goal.lay_on-requires
 lay_on-requires c =
     let a = c.args in
     let f = fits_ruled _ _ _ _ _ (sym c.call_fits.ensures ∙ not-false _ c.if-not-call_fits.false-raw) in
-    rw (after (goal.at.lay_on-requires c).After-with_plan-after) (next_ruled a.op a.reply a.region.now f.0 f.1, f.1, value_lent a.op.lent a.value.now _ f.2)
+    rw (after (goal.at.lay_on-requires c).After-with_plan-after) (next_ruled a.op a.reply a.region.now f.0 f.1, f.1, value_lent_lem a.op.lent a.value.now _ f.2)
 
 pub request_of-requires : goal.request_of-requires
 request_of-requires c =

@@ -15,7 +15,7 @@ returns-in-NotReady c = rw c.in-NotReady.is (refl, refl)
 
 
 pub returns-in_default-reply-2 : goal.returns-in_default-reply-2
-returns-in_default-reply-2 c = rw (failed c.args.reply c.TODO.before.before.before.match.keys2 c.TODO.before.before.match2.keys2 c.TODO.before.match3.keys2) (c.refuse.ensures, refl)
+returns-in_default-reply-2 c = rw (failed c.args.reply c.in_default.not-Begin c.in_default-reply.not-NotReady c.in_default-reply-2.not-Done) (c.refuse.ensures, refl)
 
 pub give-requires : goal.give-requires
 give-requires c = let a = c.args in rw c.advanced.ensures (advance_gives a.op a.region.now c.requires.0 c.requires.1)

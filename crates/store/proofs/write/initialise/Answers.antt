@@ -3,7 +3,7 @@
 use Prim.Native.Nat.{ℕ, ◌*◌}
 use mathlib.Core.Path.{◌≡◌, refl, sym, ◌∙◌, ap}
 use mathlib.Core.Bool.{true}
-use mathlib.Core.List.{List}
+use mathlib.Core.List.{[], List}
 use borrow.Author.Tests.{not-true, not-false}
 use Rattle.chip.specs.Chip.{erased}
 use Rattle.store.specs.Write.{append_of, initialise_of}
@@ -24,7 +24,7 @@ returns c =
     let got = c.get_key-answer in
     let anew : starts_anew got.result ≡ true = sym c.starts_anew.ensures ∙ not-false _ c.if-not-starts_anew.false-raw in
     let fit = anew_fits a.image.now a.s a.n a.key [] (ap starts_anew (sym got.ensures.0) ∙ anew) in
-    let blank : c.erase.new.0 ≡ erased (a.n * a.s) = c.erase.ensures ∙ ap erased fit.size in
+    let blank : c.erase.new.region ≡ erased (a.n * a.s) = c.erase.ensures ∙ ap erased fit.size in
     let done = c.append_key.ensures in
     rw (sym got.ensures.0, anew) (
       done.0 ∙ ap (λ (image : List ℕ). (append_of image a.s a.n a.key []).answer) blank,
