@@ -30,7 +30,7 @@ erase_keeps_any {s} {n} {image} w r h =
 pub erases_keep : {s n : ℕ} {image : List ℕ} → WellFormed s n image → (rs : List ℕ) → Every (λ (q : ℕ). q < n) rs → WellFormed s n (erase_all s rs image)
 unfolding erase_all
 erases_keep w [] Every.none = w
-erases_keep w (r ∷ rs) (Every.also h hs) = erases_keep (erase_keeps_any w r h) rs hs
+erases_keep {s = s} {n = n} {image = image} w (r ∷ rs) (Every.also h hs) = erases_keep {image = erase_region s r image} (erase_keeps_any w r h) rs hs
 
 -- Regions without a live record: the bindings stay.
 module _ {s n : ℕ} {image : List ℕ} (w : WellFormed s n image) {r : ℕ} (d : Lifeless s n image r) where
@@ -65,8 +65,8 @@ pub dead_erases_keep : {s n : ℕ} {image : List ℕ} → WellFormed s n image �
     → WellFormed s n (erase_all s rs image) × ((key : ℕ) (value : List ℕ) → Bound s n (erase_all s rs image) key value ↔ Bound s n image key value)
 unfolding erase_all
 dead_erases_keep w [] Every.none = (w, λ key value. (λ b. b, λ b. b))
-dead_erases_keep w (r ∷ rs) (Every.also d ds) =
-    let (last, same) = dead_erases_keep (lifeless_keeps w d) rs (all_lifeless w d rs ds) in (
+dead_erases_keep {s = s} {n = n} {image = image} w (r ∷ rs) (Every.also d ds) =
+    let (last, same) = dead_erases_keep {image = erase_region s r image} (lifeless_keeps w d) rs (all_lifeless w d rs ds) in (
       last,
       λ key value. (λ b. (lifeless_binds w d key value).0 ((same key value).0 b), λ b. (same key value).1 ((lifeless_binds w d key value).1 b)),
     )

@@ -11,7 +11,8 @@ pub record Around {A : Type 0} (xs : List A) (x : A) : Type 0 where
   pub after : List A
   pub split : xs ≡ before ++ x ∷ after
 
-pub around : {A : Type 0} {xs : List A} {x : A} → Memᴰ x xs → Around xs x
+pub around : {A : Type 0} {x : A} {xs : List A} → Memᴰ x xs → Around xs x
+around {xs = []} m = elim m [ ]
 around {xs = y ∷ ys} (Memᴰ.head e) = record { before = []; after = ys; split = ap (λ z. z ∷ ys) (sym e) }
 around {xs = y ∷ ys} (Memᴰ.tail m) = let a = around m in record { before = y ∷ a.before; after = a.after; split = ap (λ l. y ∷ l) a.split }
 

@@ -1,28 +1,23 @@
 -- What stands at a place of a region or of a chip, by the tests of the code.
 -- Assumes nothing.
-use Prim.Native.Nat.{ℕ, ◌+◌, ◌-◌, ◌*◌, ◌^◌, ◌≤◌, ◌<◌}
-use native.Mathlib.Nat.{add-sub_cancel_left}
+use Prim.Native.Nat.{ℕ, ◌+◌, ◌^◌, ◌≤◌, ◌<◌}
 use native.Mathlib.Omega.{arith}
 use mathlib.Core.Path.{◌≡◌, refl, sym, ◌∙◌, ap}
 use mathlib.Core.Bool.{Bool, true, false}
 use mathlib.Core.List.{List}
-use lib.Dec.{ltb}
-use lib.ListN.{length, take, drop}
-use borrow.Author.Tests.{ltb-true, ltb-false, lt-ltb, le-ltb}
+use lib.ListN.{length}
+use borrow.Author.Tests.{lt-ltb, le-ltb}
 use Rattle.chip.specs.Geometry.{geometry, region_of, Fits}
 use Rattle.chip.proofs.Image.{fits_geometry, region-length, region_small}
 use Rattle.format.specs.declared.Record.{Record}
-use Rattle.format.specs.declared.Fault.{Fault}
 use Rattle.format.specs.Layout.{check_sum_fits}
 use Rattle.region.specs.declared.Met.{Met}
-use Rattle.region.specs.declared.Stop.{Stop}
 use Rattle.region.specs.declared.Stop.TheVariants.{End, Bad}
 use Rattle.region.specs.Walk.{met_at, bytes_in}
 use Rattle.region.proofs.Steps.{found_fits, found_at, end_short}
 use Rattle.refusals.specs.declared.Refusal.{Refusal}
 use Rattle.entries.specs.declared.Entry.{Entry}
-use Rattle.entries.specs.declared.Shown.{Shown}
-use Rattle.entries.specs.Entries.{entry_of, entry_in, entry_at, staying, going_on, shown, shown_at}
+use Rattle.entries.specs.Entries.{entry_of, entry_in, entry_at, staying, shown_at}
 
 -- In a region.
 

@@ -4,7 +4,7 @@ use Prim.Native.Nat.{ℕ, suc, ◌+◌, ◌-◌, ◌≤◌, ◌<◌}
 use native.Mathlib.Omega.{arith}
 use mathlib.Core.Path.{◌≡◌, refl, sym, ◌∙◌, ap}
 use mathlib.Core.Bool.{Bool, true, false, cond}
-use mathlib.Core.List.{List, [], ◌∷◌, ◌++◌}
+use mathlib.Core.List.{List, [], ◌∷◌}
 use mathlib.Core.Logic.{◌⊎◌, inl, inr, ⊎_elim}
 use lib.Dec.{ltb}
 use borrow.Author.Tests.{ltb-true, ltb-false, lt-ltb, le-ltb}
@@ -20,7 +20,7 @@ use Rattle.refusals.specs.declared.Refusal.{Refusal}
 use Rattle.entries.specs.declared.Entry.{Entry}
 use Rattle.entries.specs.Entries.{entry_of, entry_in, entry_at, shown}
 use Rattle.entries.specs.Inventory.{through, bad, Inventory, items_in, behind, before, inventory_of, inventory}
-use Rattle.entries.proofs.Looks.{in_region_lem, Stood, stood}
+use Rattle.entries.proofs.Looks.{Stood, stood}
 
 -- the rest of a region's view, and the regions behind it
 abbrev onward : ℕ → List ℕ → View → Inventory → Inventory

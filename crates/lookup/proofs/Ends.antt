@@ -1,15 +1,11 @@
 -- What a lookup's end says: where it is no live record, where it is one, and where there is room.
 -- Assumes nothing.
-use Prim.Native.Nat.{ℕ, ◌+◌, ◌-◌, ◌*◌, ◌^◌, ◌≤◌, ◌<◌}
+use Prim.Native.Nat.{ℕ, ◌+◌, ◌*◌, ◌^◌, ◌≤◌, ◌<◌}
 use native.Mathlib.Omega.{arith}
 use mathlib.Core.Path.{◌≡◌, refl, sym, ◌∙◌}
 use mathlib.Core.Bool.{Bool}
-use mathlib.Core.List.{List, [], ◌∷◌}
-use mathlib.Core.Logic.{⊎_elim}
+use mathlib.Core.List.{List}
 use lib.ListN.{length, take, drop}
-use borrow.Author.Tests.{eqb-false}
-use types.Run.{OneOf}
-use denote.Enum.Declared.{tag_of}
 use Rattle.chip.specs.Geometry.{Fits, region_of}
 use Rattle.chip.specs.Chip.{is_blank}
 use Rattle.chip.proofs.Image.{place_small, region_inside, region-length}
@@ -21,7 +17,6 @@ use Rattle.lookup.specs.declared.Need.{Need}
 use Rattle.lookup.specs.declared.Room.{Room}
 use Rattle.lookup.specs.declared.Seen.{Seen}
 use Rattle.lookup.specs.declared.Looked.{Looked}
-use Rattle.lookup.specs.contracts.Looked.{the_type}
 use Rattle.lookup.specs.declared.Hit.{Hit}
 use Rattle.refusals.specs.Refusals.{first_refusal}
 use Rattle.lookup.specs.Turns.{lookup_in, refused_by, hit_by, hit_after, hit_of}

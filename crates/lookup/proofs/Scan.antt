@@ -1,6 +1,6 @@
 -- A lookup, one region at a time, and what it says where it ends. `Looks` is the lookup as its turns: every law on a lookup is an induction over it.
 -- Assumes nothing.
-use Prim.Native.Nat.{ℕ, ◌+◌, ◌-◌, ◌*◌, ◌≤◌, ◌<◌}
+use Prim.Native.Nat.{ℕ, ◌+◌, ◌*◌, ◌≤◌, ◌<◌}
 use native.Mathlib.Omega.{arith}
 use mathlib.Core.Path.{◌≡◌, refl, sym, ◌∙◌, ap, subst}
 use mathlib.Core.Bool.{Bool, true, false, not, cond}
@@ -18,7 +18,7 @@ use Rattle.format.specs.declared.Fault.{Fault}
 use Rattle.region.specs.declared.Stop.{Stop}
 use Rattle.region.specs.declared.Want.{Want}
 use Rattle.region.specs.declared.Event.{Event}
-use Rattle.region.specs.Walk.{records, ending, event_of, event_in}
+use Rattle.region.specs.Walk.{ending, event_of, event_in}
 use Rattle.region.proofs.Steps.{place_of}
 use Rattle.region.proofs.Theorems.{stop_decides, stop_within, live_decides, records_within, records_short}
 use Rattle.refusals.specs.declared.Refusal.{Refusal}
@@ -28,7 +28,7 @@ use Rattle.lookup.specs.declared.Room.{Room}
 use Rattle.lookup.specs.declared.Seen.{Seen}
 use Rattle.lookup.specs.declared.Looked.{Looked}
 use Rattle.refusals.specs.Refusals.{first_refusal}
-use Rattle.lookup.specs.Gather.{unseen, with_room, or_room, room_at, noted}
+use Rattle.lookup.specs.Gather.{with_room, or_room, room_at, noted}
 use Rattle.lookup.specs.Turns.{turn, close, on_turn, look_from, lookup_in}
 use Rattle.lookup.specs.Words.{room_on, first_room}
 

@@ -5,7 +5,6 @@ use Rattle.region.specs.declared.Stop.{Stop}
 use Rattle.region.specs.Walk.{ending}
 use Rattle.lookup.specs.declared.Need.{Need}
 use Rattle.lookup.specs.declared.Room.{Room}
-use Rattle.lookup.specs.declared.Looked.{Looked}
 use Rattle.lookup.specs.declared.Turn.{Turn}
 use Rattle.lookup.specs.Gather.{unseen, or_room, room_at}
 use Rattle.lookup.specs.Turns.{turn_of}

@@ -42,6 +42,7 @@ pub data Judged (r : ℕ) (region : List ℕ) : Verdict → Type 0 where
 
 -- what holds of every element holds of a member
 pub every_member : {A : Type 0} {P : A → Type 0} {xs : List A} {x : A} → Every P xs → Memᴰ x xs → P x
+every_member Every.none m = elim m [ ]
 every_member (Every.also p k) (mathlib.Core.List.Memᴰ.head e) = rw e p
 every_member (Every.also p k) (mathlib.Core.List.Memᴰ.tail m) = every_member k m
 
@@ -240,7 +241,7 @@ erase_out s (r ∷ rs) image q h = erase_out s rs (erase_region s r image) q (λ
 stays_blank : {s n q : ℕ} {image : List ℕ} (rs : List ℕ) → Fits image s n → q < n → region_of s image q ≡ erased s → region_of s (erase_all s rs image) q ≡ erased s
 unfolding erase_all
 stays_blank [] f l h = h
-stays_blank {s} {n} {q} {image} (r ∷ rs) f l h = stays_blank rs (fits_erased f r) l (go (eqb q r) refl)
+stays_blank {s} {n} {q} {image} (r ∷ rs) f l h = stays_blank {image = erase_region s r image} rs (fits_erased f r) l (go (eqb q r) refl)
   where
     go : (b : Bool) → eqb q r ≡ b → region_of s (erase_region s r image) q ≡ erased s
     go true e =
@@ -250,6 +251,7 @@ stays_blank {s} {n} {q} {image} (r ∷ rs) f l h = stays_blank rs (fits_erased f
 
 pub erase_in : {s n q : ℕ} {image : List ℕ} (rs : List ℕ) → Fits image s n → q < n → Memᴰ q rs → region_of s (erase_all s rs image) q ≡ erased s
 unfolding erase_all
+erase_in [] f l m = elim m [ ]
 erase_in {s} {n} {q} {image} (r ∷ rs) f l (mathlib.Core.List.Memᴰ.head e) =
-    stays_blank rs (fits_erased f r) l (ap (λ (p : ℕ). region_of s (erase_region s p image) q) (sym e) ∙ region_erased_same f l)
-erase_in (r ∷ rs) f l (mathlib.Core.List.Memᴰ.tail m) = erase_in rs (fits_erased f r) l m
+    stays_blank {image = erase_region s r image} rs (fits_erased f r) l (ap (λ (p : ℕ). region_of s (erase_region s p image) q) (sym e) ∙ region_erased_same f l)
+erase_in {s} {n} {q} {image} (r ∷ rs) f l (mathlib.Core.List.Memᴰ.tail m) = erase_in {image = erase_region s r image} rs (fits_erased f r) l m

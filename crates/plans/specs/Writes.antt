@@ -1,5 +1,5 @@
 -- What is lent to an operation; edits: what one writes or erases, and a list of them; a plan that has none.
-use Rattle.std.specs.Prelude.{ℕ, ◌+◌, ◌-◌, ◌*◌, cond, List, [], ◌∷◌, map, ltb, length}
+use Rattle.std.specs.Prelude.{ℕ, ◌+◌, ◌-◌, ◌*◌, cond, List, [], ◌∷◌, map, ltb}
 use Rattle.std.proofs.lemmas.List.Edits.{sets}
 use Rattle.chip.specs.Chip.{written}
 use Rattle.chip.specs.Geometry.{erase_region, numbers}

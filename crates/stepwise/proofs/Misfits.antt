@@ -26,7 +26,7 @@ use Rattle.steps.specs.Step.{fits_here, stepped}
 use Rattle.stepwise.proofs.Forms.{Awaits, a_region, no_more, next_awaits}
 use Rattle.stepwise.specs.Asked.{asks, request_refusal}
 use Rattle.stepwise.specs.Misfit.{Misfit, region_buffer, value_length, buffer_length, begins_late, another_first, after_the_end, rule_broken}
-use Rattle.stepwise.specs.Misfit.{LentRight, value_lent, buffer_lent}
+use Rattle.stepwise.specs.Misfit.{LentRight}
 use Rattle.stepwise.proofs.Exactly.{Refuses, unfit, fit, Replied, failed, begun, done, waiting, step_refuses, is_bad_call, is_flash_failed}
 
 -- Replies.
@@ -84,8 +84,8 @@ unfits s len key n First.Nothing t y h = go (next_awaits key n t) h
 
 pub lent_fits : (lent : Lent) (value buffer : List ℕ) → LentRight lent value buffer → buffers_fit lent (length value) (length buffer) ≡ true
 lent_fits Lent.Nothing value buffer h = refl
-lent_fits (Lent.Value len) value buffer (value_lent e) = eq-eqb (length value) len e
-lent_fits (Lent.Buffer len) value buffer (buffer_lent e) = eq-eqb (length buffer) len e
+lent_fits (Lent.Value len) value buffer (LentRight.value_lent e) = eq-eqb (length value) len e
+lent_fits (Lent.Buffer len) value buffer (LentRight.buffer_lent e) = eq-eqb (length buffer) len e
 
 -- Any reply to a service fits where one is asked for.
 pub fits : (op : Op) (y : Reply) (region value buffer : List ℕ) → rule op ≡ true → asks (request_of op) ≡ true → serves y ≡ true

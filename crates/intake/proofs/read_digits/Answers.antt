@@ -1,6 +1,6 @@
 -- `intake::read_digits` meets its contract. The loop's invariant: what is left, read on from what is held, gives the number.
 -- The measure is what is left of the length. Assumes nothing.
-use Prim.Native.Nat.{ℕ, ◌-◌, ◌≤◌}
+use Prim.Native.Nat.{ℕ, ◌≤◌}
 use native.Mathlib.Omega.{arith}
 use mathlib.Core.Bool.{true}
 use mathlib.Core.Path.{◌≡◌, sym, ◌∙◌}

@@ -5,7 +5,6 @@ use Rattle.lookup.specs.declared.Hit.{Hit}
 use Rattle.lookup.proofs.Ends.{not_live}
 use Rattle.lookup.proofs.Looked.hit.Goals as goal
 
-
 pub returns-in_default : goal.returns-in_default
 returns-in_default c = ap Hit.Refused c.refusal.ensures ∙ sym (not_live c.args.self c.in_default.not-Live)
 

@@ -4,12 +4,11 @@ use mathlib.Core.Path.{◌≡◌, sym, ◌∙◌, ap}
 use mathlib.Core.Bool.{true}
 use Prim.Native.Nat.{ℕ}
 use borrow.Author.Tests.{not-true, not-false}
-use Rattle.plans.specs.Fits.{edits_fit, then_fits, value_short}
+use Rattle.plans.specs.Fits.{edits_fit, value_short}
 use Rattle.plans.specs.Writes.{value_lent}
 use Rattle.plans.proofs.Facts.{short_facts}
 use Rattle.plans.proofs.fits.plan_fits.Goals as goal
 use Rattle.plans.proofs.fits.plan_fits.Goals.{After-edits_fit, Else-not-edits_fit, Else-not-value_short}
-
 
 short-here : (c : Else-not-value_short) → value_short c.args.lent ≡ true
 short-here c = sym c.value_short.ensures ∙ not-false _ c.if-not-value_short.false-raw
@@ -19,7 +18,6 @@ edits-are c = let a = c.args in sym (c.edits_fit.ensures ∙ ap (λ (len : ℕ).
 
 edits-here : (c : Else-not-edits_fit) → let a = c.args in edits_fit a.s a.n (value_lent a.lent) a.plan.edits ≡ true
 edits-here c = edits-are (goal.at.Else-not-edits_fit c).After-edits_fit ∙ not-false _ c.if-not-edits_fit.false-raw
-
 
 pub returns-then-not-value_short : goal.returns-then-not-value_short
 returns-then-not-value_short c = rw (sym c.value_short.ensures ∙ not-true _ c.if-not-value_short.true-raw)

@@ -12,7 +12,6 @@ returns-then-region-n c = rw (c.in-Sweep.is, lt-ltb _ _ c.if-region-n.true)
 pub returns-else-region-n : goal.returns-else-region-n
 returns-else-region-n c = rw (c.in-Sweep.is, le-ltb _ _ c.if-region-n.false)
 
-
 pub returns-then-region-n-2 : goal.returns-then-region-n-2
 returns-then-region-n-2 c = rw (c.in-Gives.is, lt-ltb _ _ c.if-region-n-2.true) c.record_fits.ensures
 

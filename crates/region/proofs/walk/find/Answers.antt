@@ -1,6 +1,6 @@
 -- `region::walk::find` meets its contract. The loop's invariant: the search from the place finds what the whole search finds.
 -- The measure is what is left of the region. Assumes nothing.
-use Prim.Native.Nat.{ℕ, ◌≤◌, ◌-◌, ◌+◌}
+use Prim.Native.Nat.{ℕ, ◌≤◌, ◌+◌}
 use native.Mathlib.Omega.{arith}
 use mathlib.Core.Path.{◌≡◌, refl, sym, ◌∙◌}
 use mathlib.Core.Bool.{Bool, true, false, cond}

@@ -1,6 +1,6 @@
 -- `region::walk::key_at` meets its contract. The loop's invariant: `key` is the number that the first `i` bytes say.
 -- The measure is how many of the eight are left. Assumes nothing.
-use Prim.Native.Nat.{ℕ, ◌<◌, ◌-◌, ◌+◌}
+use Prim.Native.Nat.{ℕ, ◌<◌, ◌+◌}
 use native.Mathlib.Numerals.{add-one}
 use native.Mathlib.Omega.{arith}
 use mathlib.Core.Path.{◌≡◌, ◌∙◌, ap}
