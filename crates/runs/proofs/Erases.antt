@@ -2,7 +2,7 @@
 -- Assumes nothing.
 use Prim.Native.Nat.{ℕ, zero, suc, ◌+◌, ◌*◌, ◌≤◌}
 use native.Mathlib.Omega.{arith}
-use mathlib.Core.Path.{◌≡◌, refl, ◌∙◌, ap, subst}
+use mathlib.Core.Path.{◌≡◌, refl, sym, ◌∙◌, ap, subst}
 use mathlib.Core.Bool.{Bool, true, false, cond}
 use mathlib.Core.List.{List, [], ◌∷◌, ◌++◌, map, append-nil}
 use mathlib.Core.Logic.{⊎_elim}
@@ -26,6 +26,7 @@ use Rattle.store.specs.Call.{Call, get, append, remove, collect, initialise}
 use Rattle.pinned.specs.Left.{erased_on, erased_in, erase_all}
 use Rattle.running.specs.declared.Request.{Request}
 use Rattle.runs.specs.Services.{unless_refused, reads, edits, reads_and_edits, collect_services, anew_services, services, services_done, erases_in, erases_of}
+use Rattle.runs.proofs.Plans.{services_on, services_one}
 use Rattle.runs.proofs.Asks.{append_asks, anew_asks}
 use Rattle.runs.proofs.Refuses.{first_anew}
 
@@ -131,17 +132,14 @@ module _ (s : ℕ) (image : List ℕ) where
   unfolding numbers collect_services erased_in erases_in
   collect_writes zero r image' same = none_erased
   collect_writes (suc k) r image' same =
-      rw (same r (omega arith))
+      subst (λ (qs : List Request). Writes qs (erased_on (verdict r (region_of s image r)) r (erased_in s image (numbers (r + 1) k))))
+      (sym (services_one s image' r (numbers (r + 1) k) ∙ ap (λ (region : List ℕ). Request.Read r ∷ services_on s image' r (numbers (r + 1) k) (verdict r region)) (same r (omega arith))))
       (go (verdict r (region_of s image r)) (λ image''. collect_writes k (r + 1) image''))
     where
       go : (v : Verdict)
           → ((image'' : List ℕ) → ((q : ℕ) → r + 1 ≤ q → region_of s image'' q ≡ region_of s image q) → Writes (collect_services s image'' (numbers (r + 1) k)) (erased_in s image (numbers (r + 1) k)))
           → Writes
-          (Request.Read r ∷ elim v [
-            | Verdict.Stands ↦ collect_services s image' (numbers (r + 1) k)
-            | Verdict.Erase ↦ Request.Erase r ∷ collect_services s (erase_region s r image') (numbers (r + 1) k)
-            | Verdict.Bad f p ↦ []
-          ])
+          (Request.Read r ∷ services_on s image' r (numbers (r + 1) k) v)
           (erased_on v r (erased_in s image (numbers (r + 1) k)))
       go Verdict.Stands ih = let w = ih image' (λ q l. same q (omega arith)) in record { last = a_read w.last; which = w.which }
       go Verdict.Erase ih =

@@ -255,17 +255,14 @@ module _ (s : ℕ) (image : List ℕ) where
   unfolding numbers collect_services
   sweep_list zero r image' same good = Sweeps.none
   sweep_list (suc k) r image' same good =
-      rw (same r (omega arith))
+      subst (Sweeps s image (r ∷ numbers (r + 1) k))
+      (sym (services_one s image' r (numbers (r + 1) k) ∙ ap (λ (region : List ℕ). Request.Read r ∷ services_on s image' r (numbers (r + 1) k) (verdict r region)) (same r (omega arith))))
       (go (judged r (region_of s image r)) (good r (omega arith) (omega arith)) (λ image'' h. sweep_list k (r + 1) image'' h (λ q l m. good q (omega arith) (omega arith))))
     where
       go : {v : Verdict} → Judged r (region_of s image r) v → NotBad (region_of s image r)
           → ((image'' : List ℕ) → ((q : ℕ) → r + 1 ≤ q → region_of s image'' q ≡ region_of s image q) → Sweeps s image (numbers (r + 1) k) (collect_services s image'' (numbers (r + 1) k)))
           → Sweeps s image (r ∷ numbers (r + 1) k)
-          (Request.Read r ∷ elim v [
-            | Verdict.Stands ↦ collect_services s image' (numbers (r + 1) k)
-            | Verdict.Erase ↦ Request.Erase r ∷ collect_services s (erase_region s r image') (numbers (r + 1) k)
-            | Verdict.Bad f p ↦ []
-          ])
+          (Request.Read r ∷ services_on s image' r (numbers (r + 1) k) v)
       go (Judged.stands d b) good ih = Sweeps.stood d (ih image' (λ q l. same q (omega arith)))
       go (Judged.erase d b) good ih = Sweeps.was_dead d (ih (erase_region s r image') (λ q l. region_erased_other s r image' q (λ e. omega arith) ∙ same q (omega arith)))
       go (Judged.bad {f = f} {o = o} e) good ih = absurd (good f o e)

@@ -58,7 +58,7 @@ module _ (s n key : ℕ) (lent : Lent) (next : Then) (image region value buffer 
         lends = b;
         long = laid_long key (own s n key lent value) (wait_of (op_at s n key lent value (follows next))) region ∙ l;
         fits = f;
-        laid_in = lays s n key lent value (follows next) region (length buffer) kept b l;
+        laid_in_lem = lays s n key lent value (follows next) region (length buffer) kept b l;
       }
 
 module _ (c : Call) (op : Op) (image region value buffer : List ℕ) (s n : ℕ)

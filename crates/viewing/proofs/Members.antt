@@ -23,6 +23,7 @@ item_of r region x = record { region = r; rec = x; sound = check_sum_fits (bytes
 
 in_region_lem : (r : ℕ) (region : List ℕ) (xs : List Record) (x : Record) → Memᴰ x xs → Memᴰ (item_of r region x) (items_in r region xs)
 unfolding items_in
+in_region_lem r region [] x m = elim m [ ]
 in_region_lem r region (y ∷ ys) x (Memᴰ.head e) = Memᴰ.head (ap (item_of r region) e)
 in_region_lem r region (y ∷ ys) x (Memᴰ.tail m) = Memᴰ.tail (in_region_lem r region ys x m)
 
