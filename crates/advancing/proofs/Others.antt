@@ -3,18 +3,12 @@
 use Prim.Native.Nat.{ℕ}
 use mathlib.Core.Bool.{Bool}
 use mathlib.Core.Path.{◌≡◌, refl}
-use mathlib.Core.List.{List, [], ◌∷◌}
-use mathlib.Core.Logic.{⊎_elim}
-use borrow.Author.Tests.{eqb-false}
-use denote.Enum.Declared.{tag_of}
+use mathlib.Core.List.{List}
 use Rattle.format.specs.declared.Record.{Record}
 use Rattle.plans.specs.declared.Lent.{Lent}
 use Rattle.plans.specs.declared.Then.{Then}
 use Rattle.plans.specs.declared.Plan.{Plan}
-use Rattle.plans.specs.contracts.Lent as lent-type
-use Rattle.plans.specs.contracts.Then as then-type
 use Rattle.running.specs.declared.Reply.{Reply}
-use Rattle.running.specs.contracts.Reply as reply-type
 use Rattle.advancing.specs.Advance.{given_by, copied, filled_by}
 
 -- no buffer is lent

@@ -106,9 +106,9 @@ module _ (o : COperation) (y : ℕ) (region value buffer : List ℕ) where
     lent_right {op} k = go op.lent refl
       where
         go : (lent : Lent) → op.lent ≡ lent → LentRight lent value' buffer'
-        go Lent.Nothing e = LentRight.nothing_Lent
+        go Lent.Nothing e = LentRight.nothing_lent
         go (Lent.Value len) e = let (l, named) = lent_value k e in LentRight.value_lent (lends l ∙ named)
-        go (Lent.Buffer len) e = let (l, named) = lent_buffer_lem k e in LentRight.Buffer-Lent (room l ∙ named)
+        go (Lent.Buffer len) e = let (l, named) = lent_buffer_lem k e in LentRight.buffer_lent (room l ∙ named)
 
     pub asked_again : ((step_numbers o y region value buffer).request.kind ≡ 4 → ⊥)
         → let t = step_numbers o y region value buffer in

@@ -2,19 +2,13 @@
 -- Assumes nothing.
 use Prim.Native.Nat.{ℕ}
 use mathlib.Core.Path.{◌≡◌, refl}
-use mathlib.Core.List.{List, [], ◌∷◌}
-use mathlib.Core.Logic.{⊎_elim}
-use borrow.Author.Tests.{eqb-false}
-use denote.Enum.Declared.{tag_of}
+use mathlib.Core.List.{List, []}
 use Rattle.plans.specs.declared.Lent.{Lent}
 use Rattle.plans.specs.declared.Then.{Then}
 use Rattle.plans.specs.Writes.{value_of}
-use Rattle.plans.specs.contracts.Lent as lent-type
-use Rattle.plans.specs.contracts.Then as then-type
 use Rattle.running.specs.declared.Op.{Op}
 use Rattle.running.specs.declared.Reply.{Reply}
 use Rattle.running.specs.Waits.{wait_next}
-use Rattle.running.specs.contracts.Reply as reply-type
 use Rattle.laying.specs.Lend.{laid_for, laid, laid_on}
 
 -- no value is lent

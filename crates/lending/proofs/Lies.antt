@@ -2,13 +2,10 @@
 -- Assumes nothing.
 use Prim.Native.Nat.{ℕ, ◌+◌, ◌-◌, ◌*◌, ◌^◌, ◌≤◌, ◌<◌}
 use native.Mathlib.Omega.{arith}
-use mathlib.Core.Path.{◌≡◌, refl, sym, ◌∙◌, ap}
+use mathlib.Core.Path.{◌≡◌, refl, sym}
 use mathlib.Core.Bool.{Bool, true, false, cond}
-use mathlib.Core.List.{List, [], ◌∷◌}
-use mathlib.Core.Logic.{⊎_elim}
+use mathlib.Core.List.{List, []}
 use lib.ListN.{length}
-use borrow.Author.Tests.{eqb-false}
-use denote.Enum.Declared.{tag_of}
 use Rattle.chip.specs.Geometry.{region_of}
 use Rattle.format.specs.declared.Record.{Record}
 use Rattle.region.specs.Walk.{value_length}
@@ -18,9 +15,7 @@ use Rattle.lookup.specs.Turns.{hit_of}
 use Rattle.lookup.proofs.Ends.{Held, held}
 use Rattle.plans.specs.declared.Answer.{Answer}
 use Rattle.plans.specs.declared.Answer.TheVariants.{Complete, Written, Freed, Refused}
-use Rattle.plans.specs.contracts.Answer.{the_type}
 use Rattle.entries.specs.Entries.{sound_in}
-use Rattle.lending.specs.declared.Located.{Located}
 use Rattle.lending.specs.Lending.{nowhere, located_in, located_by, located_of, companion_of, part_at}
 
 -- The test of the code is the definition's.

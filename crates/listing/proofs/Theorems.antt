@@ -3,8 +3,8 @@
 use Prim.Native.Nat.{ℕ, zero, suc, ◌+◌, ◌-◌, ◌*◌, ◌≤◌, ◌<◌}
 use native.Mathlib.Omega.{arith}
 use mathlib.Core.Bool.{Bool, true, false, cond}
-use mathlib.Core.Path.{◌≡◌, refl, sym, ◌∙◌, ap}
-use mathlib.Core.List.{List, [], ◌∷◌, ◌++◌}
+use mathlib.Core.Path.{◌≡◌, refl, ◌∙◌, ap}
+use mathlib.Core.List.{List, ◌++◌}
 use lib.Dec.{leb}
 use lib.ListN.{length, drop, length-append}
 use borrow.Author.Tests.{leb-true}
@@ -14,9 +14,9 @@ use Rattle.entries.specs.Entries.{entry_at}
 use Rattle.entries.specs.Inventory.{inventory}
 use Rattle.entries.proofs.Steps.{inventory_from, here, from_ends, from_bad, from_over, not_refused, from_first}
 use Rattle.intake.specs.declared.Intake.{Intake}
-use Rattle.intake.specs.Intake.{most_image, intake_of}
+use Rattle.intake.specs.Intake.{intake_of}
 use Rattle.intake.proofs.Taken.{taken}
-use Rattle.lines.specs.Text.{line_of, bad_line, header_line}
+use Rattle.lines.specs.Text.{line_of, header_line}
 use Rattle.lines.proofs.Written.{short_line, short_bad}
 use Rattle.listing.specs.Listing.{lines_of, text_of, listing_by, listing, most_text, text_length}
 use Rattle.listing.proofs.Listed.{text_from, text_before, ahead, next_region, passed, ahead_region}

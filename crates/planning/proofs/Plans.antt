@@ -4,17 +4,13 @@ use Prim.Native.Nat.{ℕ, ◌≤◌, ◌<◌}
 use native.Mathlib.Omega.{arith}
 use mathlib.Core.Path.{◌≡◌, refl}
 use mathlib.Core.Bool.{Bool, true, false, cond}
-use mathlib.Core.List.{[], ◌∷◌}
-use mathlib.Core.Logic.{⊎_elim}
-use borrow.Author.Tests.{lt-ltb, le-leb, eqb-false}
-use denote.Enum.Declared.{tag_of}
+use borrow.Author.Tests.{lt-ltb, le-leb}
 use Rattle.format.specs.declared.Record.{Record}
 use Rattle.format.specs.declared.Fault.{Fault}
 use Rattle.lookup.specs.declared.Room.{Room}
 use Rattle.lookup.specs.declared.Seen.{Seen}
 use Rattle.lookup.specs.declared.Looked.{Looked}
 use Rattle.lookup.specs.Turns.{refused_by}
-use Rattle.lookup.specs.contracts.Looked.{the_type}
 use Rattle.plans.specs.declared.Answer.{Answer}
 use Rattle.plans.specs.declared.Aim.{Aim}
 use Rattle.plans.specs.declared.Lent.{Lent}
@@ -24,7 +20,7 @@ use Rattle.plans.specs.declared.First.{First}
 use Rattle.plans.specs.declared.Then.{Then}
 use Rattle.plans.specs.declared.Plan.{Plan}
 use Rattle.plans.specs.Answers.{starts_anew}
-use Rattle.plans.specs.Writes.{value_lent, first, rest, ends, refuses}
+use Rattle.plans.specs.Writes.{value_lent, first, ends, refuses}
 use Rattle.plans.specs.Fits.{record_fits, edit_fits, edits_fit, room_fits, seen_fits, lent_to_append, lent_for, value_short, then_fits, answer_rests, rests}
 use Rattle.planning.specs.Planning.{writes, gives, anew, place_plan, append_plan, plan, given_plan}
 use Rattle.plans.proofs.Facts.{PlanFits, join, begins_fits, ends_fits}

@@ -4,11 +4,9 @@ use Prim.Native.Nat.{ℕ, ◌+◌, ◌≤◌}
 use native.Mathlib.Omega.{arith}
 use mathlib.Core.Path.{◌≡◌, refl, sym, ◌∙◌}
 use mathlib.Core.Bool.{Bool, true, false}
-use mathlib.Core.List.{List, [], ◌∷◌}
-use mathlib.Core.Logic.{⊎_elim}
+use mathlib.Core.List.{List, []}
 use lib.ListN.{length}
-use borrow.Author.Tests.{lt-ltb, eqb-false}
-use denote.Enum.Declared.{tag_of}
+use borrow.Author.Tests.{lt-ltb}
 use Rattle.chip.specs.Geometry.{Fits}
 use Rattle.probe.specs.Probe.{probes}
 use Rattle.format.specs.declared.Record.{Record}
@@ -31,7 +29,6 @@ use Rattle.plans.specs.declared.Then.{Then}
 use Rattle.plans.specs.declared.Plan.{Plan}
 use Rattle.plans.specs.Fits.{edits_fit}
 use Rattle.planning.specs.Planning.{place_plan, append_plan, remove_plan}
-use Rattle.plans.specs.contracts.Then.{the_type}
 use Rattle.plans.proofs.Facts.{join, place_fits_lem, record_fits_lem}
 use Rattle.store.specs.Write.{end_of, carried, append_of, remove_of}
 

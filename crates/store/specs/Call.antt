@@ -1,5 +1,5 @@
 -- A call of the store as data, for statements that speak of any call, and what it is about: its key, its value's length, the lookup it begins with.
-use Rattle.std.specs.Prelude.{ℕ, List, [], length}
+use Rattle.std.specs.Prelude.{ℕ, List, []}
 use Rattle.std.proofs.Math.Option.{Option, none, some}
 use Rattle.format.specs.declared.Removal.{Removal}
 use Rattle.plans.specs.declared.Answer.{Answer}

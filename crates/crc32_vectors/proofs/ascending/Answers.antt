@@ -18,4 +18,4 @@ pub loop-i-preserved : goal.loop-i-preserved
 loop-i-preserved c = search (place-next, c.loop-i.invariant.2, rules)
 
 pub returns : goal.returns
-returns c = c.loop-i.invariant.2 k (omega arith)
+returns c k h = c.loop-i.invariant.2 k (omega arith)

@@ -1,6 +1,6 @@
 -- `lending::find_value` meets its contract: the record that is found lies in its region, where it is located.
 -- Assumes nothing.
-use Prim.Native.Nat.{ℕ, ◌-◌, ◌*◌}
+use Prim.Native.Nat.{ℕ, ◌*◌}
 use native.Mathlib.Omega.{arith}
 use mathlib.Core.Path.{sym, ◌∙◌, ap}
 use mathlib.Core.List.{List}

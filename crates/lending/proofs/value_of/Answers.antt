@@ -1,6 +1,5 @@
 -- `lending::value_of` meets its contract: the part that the answer and the place say.
 -- Assumes nothing.
-use Prim.Native.Nat.{◌-◌}
 use native.Mathlib.Nat.{add-sub_cancel_left}
 use native.Mathlib.Omega.{arith}
 use mathlib.Core.Path.{sym, ◌∙◌, ap}
@@ -39,7 +38,6 @@ returns-in-Complete c =
     ap (λ k. take k (drop found.place image)) (add-sub_cancel_left found.place len)
     ∙ ap (part_at image found.place) (sym c.in-Complete.is)
     ∙ ap (λ (l : Located). part_at image l.place l.answer) c.find_value-found.ensures
-
 
 -- src/lib.rt:68:1
 pub returns : goal.returns

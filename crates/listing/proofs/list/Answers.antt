@@ -19,7 +19,6 @@ list_from-requires c =
     let f = image_fits c.args.input.now (sym c.take_in-taken.ensures ∙ c.in-Chip.is) in
     (f.0, f.1, omega arith, omega arith)
 
-
 pub returns-in-Refused : goal.returns-in-Refused
 returns-in-Refused c = refused_line_lem c.args.input.now c.args.out.now _ _ (omega arith) (sym c.take_in-taken.ensures ∙ c.in-Refused.is) c.put_refused.ensures
 

@@ -22,7 +22,6 @@ pub returns-then-not-buffers_fit : goal.returns-then-not-buffers_fit
 unfolding call_fits
 returns-then-not-buffers_fit c = rw (rule-here (goal.at.returns-then-not-buffers_fit c).Else-not-keeps_rule, eq-eqb _ _ c.if-region-op.false, sym c.buffers_fit.ensures ∙ not-true _ c.if-not-buffers_fit.true-raw)
 
-
 pub returns : goal.returns
 unfolding call_fits
 returns c =

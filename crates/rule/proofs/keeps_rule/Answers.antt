@@ -33,7 +33,6 @@ pub returns-then-not-fresh_fits : goal.returns-then-not-fresh_fits
 unfolding rule
 returns-then-not-fresh_fits c = rw (sized-here (goal.at.returns-then-not-fresh_fits c).Else-not-is_sized, key_here (goal.at.returns-then-not-fresh_fits c).Else-not-allowed_key, fresh-is (goal.at.returns-then-not-fresh_fits c).After-fresh_fits ∙ not-true _ c.if-not-fresh_fits.true-raw)
 
-
 pub returns : goal.returns
 unfolding rule
 returns c = rw (sized-here (goal.at.returns c).Else-not-is_sized, key_here (goal.at.returns c).Else-not-allowed_key, fresh-is (goal.at.returns c).After-fresh_fits ∙ not-false _ c.if-not-fresh_fits.false-raw) c.plan_fits.ensures

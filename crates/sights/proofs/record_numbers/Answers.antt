@@ -5,7 +5,6 @@ use mathlib.Core.Path.{◌∙◌, ap}
 use Rattle.sights.specs.Sights.{flag}
 use Rattle.sights.proofs.record_numbers.Goals as goal
 
-
 -- src/lib.rt:70:1
 pub returns : goal.returns
 returns c =

@@ -3,7 +3,6 @@
 use Rattle.advancing.proofs.Others.{not_buffer}
 use Rattle.advancing.proofs.advance.copy_lent.Goals as goal
 
-
 pub returns-in_default : goal.returns-in_default
 returns-in_default c = let a = c.args in not_buffer a.lent a.region.now a.rec a.buffer.now c.in_default.not-Buffer
 

@@ -8,7 +8,6 @@ use Rattle.values.specs.Values.{read_answer}
 use Rattle.advancing.proofs.Others.{not_gives}
 use Rattle.advancing.proofs.advance.give.Goals as goal
 
-
 pub returns-in_default : goal.returns-in_default
 returns-in_default c = let a = c.args in not_gives a.n a.lent a.region.now a.plan a.plan.next a.buffer.now c.in_default.not-Gives
 

@@ -13,7 +13,6 @@ returns-in-Begin c = rw c.in-Begin.is (refl, refl)
 pub returns-in-NotReady : goal.returns-in-NotReady
 returns-in-NotReady c = rw c.in-NotReady.is (refl, refl)
 
-
 pub returns-in_default-reply-2 : goal.returns-in_default-reply-2
 returns-in_default-reply-2 c = rw (failed c.args.reply c.in_default.not-Begin c.in_default-reply.not-NotReady c.in_default-reply-2.not-Done) (c.refuse.ensures, refl)
 

@@ -3,7 +3,6 @@
 use Rattle.laying.proofs.Others.{not_value}
 use Rattle.laying.proofs.lend.lay_new.Goals as goal
 
-
 pub returns-in_default : goal.returns-in_default
 returns-in_default c = rw (not_value c.args.lent c.args.value.now c.in_default.not-Value) c.lay_record.ensures
 

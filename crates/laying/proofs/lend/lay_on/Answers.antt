@@ -7,6 +7,5 @@ use Rattle.laying.proofs.lend.lay_on.Goals as goal
 pub returns-in-NotReady : goal.returns-in-NotReady
 returns-in-NotReady c = rw c.in-NotReady.is
 
-
 pub returns : goal.returns
 returns c = let a = c.args in c.lay.ensures ∙ sym (laid_else a.reply a.op a.region.now a.value.now c.in_default.not-NotReady)

@@ -4,10 +4,8 @@ use mathlib.Core.Path.{sym, ◌∙◌}
 use borrow.Author.Tests.{ne_eqb, not-true, not-false}
 use Rattle.operations.proofs.unpacks.own_next.Goals as goal
 
-
 pub returns-then-not-own_aim : goal.returns-then-not-own_aim
 returns-then-not-own_aim c = rw (c.if-o-eq-NEXT_SEEK.true, sym c.own_aim.ensures ∙ not-true _ c.if-not-own_aim.true-raw)
-
 
 pub returns-then-o-eq-NEXT_SEEK : goal.returns-then-o-eq-NEXT_SEEK
 returns-then-o-eq-NEXT_SEEK c = rw (c.if-o-eq-NEXT_SEEK.true, sym c.own_aim.ensures ∙ not-false _ c.if-not-own_aim.false-raw) c.own_gathered.ensures

@@ -20,7 +20,6 @@ inside c =
 pub overflow_add-from : goal.overflow_add-from
 overflow_add-from c = omega (arith, inside (goal.at.overflow_add-from c).After-kill_offset, c.kill_offset.ensures)
 
-
 pub overflow_add-to : goal.overflow_add-to
 overflow_add-to c = omega (arith, inside (goal.at.overflow_add-to c).After-kill_offset, c.kill_offset.ensures, c.kill_length.ensures)
 
@@ -29,7 +28,6 @@ overflow_mul-result c = omega (arith, inside (goal.at.overflow_mul-result c).Aft
 
 pub overflow_add-result : goal.overflow_add-result
 overflow_add-result c = omega (arith, inside (goal.at.overflow_add-result c).After-kill_offset, c.kill_offset.ensures)
-
 
 pub returns : goal.returns
 returns c = rw (c.kill_length.ensures, c.kill_offset.ensures)
