@@ -1,7 +1,7 @@
 /*
  * Stilefray: a key-value store for raw flash, proved. The way in from C (C99 on) and from C++.
  *
- * Link target/staticlib/libstilefray.a, which `rt staticlib stilefray` writes, for x86-64. It allocates nothing, keeps nothing between
+ * Link target/staticlib/libstilefray.a, which `bash scripts/archive` writes, for x86-64. It allocates nothing, keeps nothing between
  * calls and calls no function but memset.
  *
  * What every call does, in full, stands in docs/RULES.md; R5.2 and the like are its numbers. What to do about an answer stands in

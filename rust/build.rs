@@ -1,5 +1,5 @@
 //! Says where the static library lies: in the folder that STILEFRAY_LIB_DIR names, or else in target/staticlib of the repository,
-//! where `rt staticlib stilefray` writes it. Where it is missing the build stops here, and not at the linker.
+//! where `scripts/archive` writes it. Where it is missing the build stops here, and not at the linker.
 use std::env;
 use std::ffi::OsString;
 use std::fs::File;
@@ -62,7 +62,7 @@ fn missing(dir: &Path, named: bool, repository: &Path) -> String {
     let there = if is_one { repository.display().to_string() } else { "a clone of Stilefray".to_string() };
     format!(
         "there is no archive {}{because}\n\
-         make one: `rt staticlib stilefray`, called in {there}, writes target/staticlib/{ARCHIVE} there\n\
+         make one: `bash scripts/archive`, called in {there}, writes target/staticlib/{ARCHIVE} there\n\
          STILEFRAY_LIB_DIR names the folder that it is taken from; not set, that is {}",
         dir.join(ARCHIVE).display(),
         default_dir(repository).display()

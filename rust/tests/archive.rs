@@ -31,7 +31,7 @@ fn the_archive_is_found_or_said_to_be_missing_by_its_whole_path() {
     let missing = |words: &str| format!("there is no archive {}/{words}", dir.display());
     let elsewhere = said(&package, "elsewhere", &dir).unwrap_err();
     assert!(elsewhere.contains(&missing("elsewhere/libstilefray.a, in the folder that STILEFRAY_LIB_DIR names\n")), "{elsewhere}");
-    assert!(elsewhere.contains("make one: `rt staticlib stilefray`, called in "), "{elsewhere}");
+    assert!(elsewhere.contains("make one: `bash scripts/archive`, called in "), "{elsewhere}");
     let from_folder = said(&package, "../none/x", &folder).unwrap_err();
     assert!(from_folder.contains(&missing("none/x/libstilefray.a")), "{from_folder}");
     fs::write(folder.join("libstilefray.a"), "").unwrap(); // cut off at once
