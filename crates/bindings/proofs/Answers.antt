@@ -25,7 +25,7 @@ use Rattle.plans.specs.declared.Answer.TheVariants.{Complete, Refused}
 use Rattle.plans.specs.Writes.{applied}
 use Rattle.store.specs.Read.{got_by, get_of}
 use Rattle.store.specs.Write.{refused, append_of}
-use Rattle.bindings.specs.WellFormed.{Live, WellFormed, Bound}
+use Rattle.bindings.specs.WellFormed.{WellFormed, Bound}
 use Rattle.bindings.proofs.Lookups.{never_bad, found_live, is_found}
 
 -- nothing is refused before reading

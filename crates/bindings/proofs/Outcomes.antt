@@ -24,7 +24,7 @@ use Rattle.refusals.specs.Refusals.{refusal_of, first_refusal}
 use Rattle.lookup.specs.Words.{first_room}
 use Rattle.lookup.specs.Turns.{lookup_in, hit_by, hit_after, hit_of}
 use Rattle.lookup.proofs.Scan.{fine, gathered_first, room_from, Roomy}
-use Rattle.plans.specs.declared.Answer.TheVariants.{Written, Refused}
+use Rattle.plans.specs.declared.Answer.TheVariants.{Written}
 use Rattle.plans.specs.Writes.{applied}
 use Rattle.planning.specs.Planning.{place_plan}
 use Rattle.store.specs.Write.{Done, refused, carried, append_by, append_after, append_of, remove_by, remove_of}

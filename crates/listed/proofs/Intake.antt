@@ -7,7 +7,7 @@ use mathlib.Core.Path.{◌≡◌, refl, sym, ◌∙◌, ap}
 use mathlib.Core.Bool.{true, ◌&&◌}
 use mathlib.Core.List.{List, ◌∷◌, ◌++◌, append_assoc}
 use lib.Dec.{leb}
-use lib.ListN.{length, get_or, take, drop, length-append, length-take, length-drop}
+use lib.ListN.{length, get_or, drop, length-append, length-drop}
 use lib.Seq.{get_or-drop, get_or-append_seam, drop-append_seam, drop-append-add}
 use borrow.Author.Tests.{le-leb}
 use Rattle.chip.specs.Geometry.{geometry, Shape, Fits}

@@ -22,7 +22,7 @@ use Rattle.advancing.specs.Advance.{next_plan, buffer_on}
 use Rattle.stepwise.specs.Asked.{asks}
 use Rattle.stepwise.proofs.Misfits.{edit_asks as serves-edit}
 use Rattle.laying.specs.Lend.{laid}
-use Rattle.runs.specs.Host.{Host, Run, Beat, ready, waiting, Same, service_done, image_served, region_served, region_meanwhile, logged, beat, drive, readies}
+use Rattle.runs.specs.Host.{Host, Run, Beat, ready, waiting, Same, service_done, image_served, region_served, region_meanwhile, logged, drive, readies}
 use Rattle.runs.specs.Services.{services_done}
 use Rattle.runs.proofs.Rests.{Conf, conf, left, op_at, own, request_at, at_rest, onward, meanwhile, Good, wait_law, good_meanwhile, done_law, good_onward, edit_waits, edit_leads, read_leads}
 

@@ -34,7 +34,7 @@ use Rattle.plans.specs.declared.Aim.{Aim}
 use Rattle.sweeping.specs.declared.Verdict.{Verdict}
 use Rattle.sweeping.specs.Sweeps.{verdict_on, verdict}
 use Rattle.plans.specs.Answers.{refusal, starts_anew}
-use Rattle.planning.specs.Planning.{anew, place_plan, append_plan, remove_plan}
+use Rattle.planning.specs.Planning.{place_plan, append_plan, remove_plan}
 use Rattle.store.specs.Read.{get_of}
 use Rattle.store.specs.Write.{Done, append_of, initialise_of}
 use Rattle.store.specs.Call.{get, append, remove, collect, initialise, answer_of}

@@ -10,7 +10,7 @@ use mathlib.Core.List.{List, [], ◌∷◌}
 use mathlib.Core.Logic.{◌↔◌}
 use lib.Dec.{ltb}
 use lib.ListN.{length, get_or, length-map}
-use Rattle.chip.specs.Every.{Every, none, also}
+use Rattle.chip.specs.Every.{Every}
 use Rattle.chip.specs.Geometry.{numbers}
 use Rattle.probe.specs.Probe.{probes}
 use Rattle.format.specs.declared.Removal.{Removal}

@@ -13,8 +13,7 @@ use Rattle.chip.specs.Geometry.{region_of, numbers}
 use Rattle.chip.proofs.Image.{fits_geometry}
 use Rattle.format.specs.declared.Record.{Record}
 use Rattle.format.specs.Layout.{check_sum_fits}
-use Rattle.region.specs.declared.Stop.{Stop}
-use Rattle.region.specs.Walk.{records, ending, bytes_in}
+use Rattle.region.specs.Walk.{records, bytes_in}
 use Rattle.entries.specs.Inventory.{Item, through, Inventory, items_in, behind, before, inventory_of, inventory}
 use Rattle.bindings.specs.WellFormed.{WellFormed, Stored, Live, EndsAt}
 

@@ -7,9 +7,9 @@ use mathlib.Core.Bool.{Bool, true, false, not, cond}
 use mathlib.Core.Logic.{◌⊎◌, inl, inr}
 use mathlib.Core.List.{List, [], ◌∷◌, ◌++◌}
 use lib.Dec.{ltb}
-use lib.ListN.{length, take, drop, length-take, length-drop}
+use lib.ListN.{length, take, drop, length-drop}
 use lib.Seq.{take-take, drop-drop, length-take-le}
-use borrow.Author.Tests.{ltb-true, ltb-false, le-ltb}
+use borrow.Author.Tests.{ltb-true, le-ltb}
 use Rattle.chip.specs.Geometry.{geometry, region_of}
 use Rattle.probe.specs.Probe.{allowed_key, probes}
 use Rattle.chip.proofs.Lists.{drop-take}
@@ -24,14 +24,13 @@ use Rattle.lookup.specs.declared.Need.{Need}
 use Rattle.lookup.specs.declared.Looked.{Looked}
 use Rattle.lookup.specs.declared.Hit.{Hit}
 use Rattle.lookup.specs.Turns.{lookup_in, hit_by, hit_after, hit_of}
-use Rattle.lookup.proofs.Ends.{Held, held}
+use Rattle.lookup.proofs.Ends.{held}
 use Rattle.plans.specs.declared.Answer.{Answer}
 use Rattle.plans.specs.declared.Answer.TheVariants.{Complete, Written, Freed, Refused}
-use Rattle.values.specs.Values.{read_answer, read_buffer}
-use Rattle.store.specs.Read.{Got, got_by, get_of}
+use Rattle.values.specs.Values.{read_answer}
+use Rattle.store.specs.Read.{got_by, get_of}
 use Rattle.entries.specs.Entries.{sound_in}
-use Rattle.lending.specs.declared.Located.{Located}
-use Rattle.lending.specs.Lending.{nowhere, located_by, located_of, companion_of, part_at, value_of}
+use Rattle.lending.specs.Lending.{located_by, located_of, companion_of, part_at, value_of}
 use Rattle.lending.proofs.Lies.{Lent, lent}
 
 -- a record's value, where it lies in the image

@@ -3,7 +3,6 @@ use Rattle.std.specs.Prelude.{ℕ, zero, suc, ◌+◌, ◌*◌, ◌/◌, List, [
 use Rattle.std.proofs.Math.Option.{Option, none, some}
 use Rattle.format.specs.Layout.{edition, least_length}
 use Rattle.entries.specs.declared.Entry.{Entry}
-use Rattle.entries.specs.declared.Shown.{Shown}
 use Rattle.entries.specs.Entries.{shown_at}
 use Rattle.entries.specs.Inventory.{Item, Last, through, bad, refused, Inventory}
 

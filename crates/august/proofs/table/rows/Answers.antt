@@ -1,6 +1,6 @@
 -- `august::table::rows` meets its contract, that it is safe and ends. The loop's invariant: the place lies in the region.
 -- The measure is what is left of the region. Assumes nothing.
-use Prim.Native.Nat.{◌+◌, ◌-◌, ◌≤◌}
+use Prim.Native.Nat.{◌+◌, ◌≤◌}
 use native.Mathlib.Omega.{arith}
 use mathlib.Core.Path.{◌∙◌, sym}
 use lib.ListN.{length}

@@ -8,7 +8,6 @@ use Rattle.stilefray.specs.Stepped.{packed_step}
 use Rattle.stilefray.proofs.Called.{no_op, no_reply, fit}
 use Rattle.stilefray.proofs.stepped.stilefray_step.Goals as goal
 
-
 pub returns-then-not-stands : goal.returns-then-not-stands
 returns-then-not-stands c =
     let a = c.args in
