@@ -1,5 +1,5 @@
 #!/usr/bin/env python3
-"""Brings the repository's own definitions and lemmas to snake case: run once, after /opt/rattle/port/port.py, at the top.
+"""Brings the repository's own definitions and lemmas to snake case: run once, after the kit's port.py, at the top.
 
 usage: python3 tools/snake_names.py [--list]     (--list prints the map and writes nothing)
 

@@ -99,12 +99,11 @@ collection_counts {s} {n} {image} w =
     let (count, which, _) = freed_is_counted image s n bytes e in
     (e ∙ ap Freed count, which)
 
--- R11.5: initialise that answers Written leaves a well-formed image, and the main key with an empty value is its only binding: whatever the
--- image was before, well-formed or not.
-pub initialise_makes_well_formed : (image : List ℕ) (s n key : ℕ) → key < 2 ^ 64 → (initialise_of image s n key).answer ≡ Written
+-- An initialise that answers Written is an append to a blank chip.
+initialise_made : (image : List ℕ) (s n key : ℕ) → key < 2 ^ 64 → (initialise_of image s n key).answer ≡ Written
     → WellFormed s n (initialise_of image s n key).image
     × ((key' : ℕ) (value' : List ℕ) → Bound s n (initialise_of image s n key).image key' value' ↔ ((key' ≡ key) × (value' ≡ [])))
-initialise_makes_well_formed image s n key k h = subst Made (sym (ap (λ (d : Done). d.image) same)) (made (sym (ap (λ (d : Done). d.answer) same) ∙ h))
+initialise_made image s n key k h = subst Made (sym (ap (λ (d : Done). d.image) same)) (made (sym (ap (λ (d : Done). d.answer) same) ∙ h))
   where
     same : initialise_of image s n key ≡ append_of (erased (n * s)) s n key []
     same = initialise_appends image s n key h
@@ -114,13 +113,20 @@ initialise_makes_well_formed image s n key k h = subst Made (sym (ap (λ (d : Do
 
     made : (append_of (erased (n * s)) s n key []).answer ≡ Written → Made (append_of (erased (n * s)) s n key []).image
     made e =
-        let w = blank_well_formed (written_shape (erased (n * s)) s n key [] e) in (
+        let w = Images.blank_well_formed (written_shape (erased (n * s)) s n key [] e) in (
           call_keeps w (Call.append key []) (Typed.typed_append k no_bytes),
           λ key' value'. let adds = append_adds w key [] k no_bytes e key' value' in (
             λ b. ⊎_elim (λ p. p) (λ o. absurd (blank_unbound s n key' value' o)) (adds.0 b),
             λ p. adds.1 (inl p),
           ),
         )
+
+-- R11.5: initialise that answers Written leaves a well-formed image, and the main key with an empty value is its only binding: whatever the
+-- image was before, well-formed or not.
+pub initialise_makes_well_formed : (image : List ℕ) (s n key : ℕ) → key < 2 ^ 64 → (initialise_of image s n key).answer ≡ Written
+    → WellFormed s n (initialise_of image s n key).image
+    × ((key' : ℕ) (value' : List ℕ) → Bound s n (initialise_of image s n key).image key' value' ↔ ((key' ≡ key) × (value' ≡ [])))
+initialise_makes_well_formed image s n key k h = initialise_made image s n key k h
 
 -- R11.6: a refused call alters no binding, and no byte of the image. Get alters nothing, answered or refused.
 pub refusal_alters_none : {s n : ℕ} {image : List ℕ} → WellFormed s n image → (c : Call) → 1 ≤ refusal (answer_of c image s n) → image_after c image s n ≡ image
@@ -191,7 +197,7 @@ pub initialised_is_found : (image : List ℕ) (s n key : ℕ) → key < 2 ^ 64 �
     × (get_of later s n key buffer ≡ record { answer = Complete 0; buffer = buffer })
     × (length (regions_read key Need.Nothing s later (probes key n)) ≤ n)
 initialised_is_found image s n key k h calls p buffer =
-    let (w, bound) = initialise_makes_well_formed image s n key k h in
+    let (w, bound) = initialise_made image s n key k h in
     bound_is_found w key [] ((bound key []).1 (refl, refl)) calls p buffer (omega arith)
 
 -- R11.9: broken off among its erases, an operation leaves a well-formed image: whichever regions are erased, live records in them or not.

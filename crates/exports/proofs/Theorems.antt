@@ -19,6 +19,7 @@ use Rattle.stilefray.specs.Allows.{StartGetAllows, StartAppendAllows, StartInval
 use Rattle.stilefray.specs.Allows.{StepAllows, ChecksumAllows, FindValueAllows, RecordAtAllows}
 use Rattle.exports.specs.Misfits.{Misfits}
 use Rattle.exports.specs.Inside.{InsideNumbers, ReadsNumbers}
+use Rattle.exports.proofs.Alone.{two_alone}
 use Rattle.exports.proofs.Numbers.{bad_call_lem, flash_failed, inside, region_altered, buffer_altered, misfits_keep}
 use Rattle.exports.proofs.Handed.{answers_6, rest_left, asked_again}
 
@@ -45,7 +46,7 @@ pub after_the_end_bad_call : (o : COperation) (y : ℕ) (region value buffer : L
     → (step_numbers o y region value buffer).request.kind ≡ 4
     → (y' : ℕ) (region' value' buffer' : List ℕ) → (step_numbers (step_numbers o y region value buffer).op y' region' value' buffer').request.answer.refusal ≡ 11
 after_the_end_bad_call o y region value buffer fits e y' region' value' buffer' =
-    (bad_call_exactly_when _ y' region' value' buffer').1 (Misfits.after_the_end (ended_is_6 o y region value buffer fits e))
+    (bad_call_exactly_when _ y' region' value' buffer').1 (Misfits.after_the_end (answers_6 o y region value buffer fits e))
 
 -- R6.11: BadCall leaves the running operation as it was: all its numbers, and region and buffer too.
 pub bad_call_keeps_all : (o : COperation) (y : ℕ) (region value buffer : List ℕ) → Misfits o y region value buffer
@@ -97,22 +98,22 @@ only_two (p, q) (p', q') = (only_one p p', only_one q q')
 -- R7.5: the one-call form: the answer, and get's buffer or the image at exit.
 module _ (image : List ℕ) (s n : ℕ) {a a' : CAnswer} {b b' : List ℕ} where
   pub get_key_only_one : (key : ℕ) (buffer : List ℕ) → GetKeyAllows image s n key buffer a b → GetKeyAllows image s n key buffer a' b' → (a ≡ a') × (b ≡ b')
-  get_key_only_one key buffer = only_two
+  get_key_only_one key buffer = two_alone
 
   pub append_key_only_one : (key : ℕ) (value : List ℕ) → AppendKeyAllows image s n key value a b → AppendKeyAllows image s n key value a' b' → (a ≡ a') × (b ≡ b')
-  append_key_only_one key value = only_two
+  append_key_only_one key value = two_alone
 
   pub invalidate_key_only_one : (key : ℕ) → InvalidateKeyAllows image s n key a b → InvalidateKeyAllows image s n key a' b' → (a ≡ a') × (b ≡ b')
-  invalidate_key_only_one key = only_two
+  invalidate_key_only_one key = two_alone
 
   pub zeroise_key_only_one : (key : ℕ) → ZeroiseKeyAllows image s n key a b → ZeroiseKeyAllows image s n key a' b' → (a ≡ a') × (b ≡ b')
-  zeroise_key_only_one key = only_two
+  zeroise_key_only_one key = two_alone
 
   pub garbage_collect_only_one : GarbageCollectAllows image s n a b → GarbageCollectAllows image s n a' b' → (a ≡ a') × (b ≡ b')
-  garbage_collect_only_one = only_two
+  garbage_collect_only_one = two_alone
 
   pub initialise_only_one : (key : ℕ) → InitialiseAllows image s n key a b → InitialiseAllows image s n key a' b' → (a ≡ a') × (b ≡ b')
-  initialise_only_one key = only_two
+  initialise_only_one key = two_alone
 
 -- R7.5: the stepped form's starts: a refusal's number and the numbers of a running operation.
 module _ (s n : ℕ) {a a' : CStart} where

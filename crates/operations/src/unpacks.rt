@@ -279,6 +279,7 @@ fn own_next(o: COperation) -> bool
 }
 
 // R12.5: whether numbers are those of a running operation. With anything more in them they are none: a step would not hand it back.
+#[tactic(auto, unfolding(crate::specs::Unpacks::standing))]
 pub fn stands(o: COperation) -> bool
     ensures { result ≡ standing o }
 {

@@ -92,7 +92,7 @@ module _ (s n : ℕ) (lent : Lent) where
     shape_sound : {t : Bool} {looked : Looked} {p : Plan} → Shape n lent t looked p → t ≡ true → 1 ≤ n → Known s n (value_lent lent) looked → Sound s n lent p
     shape_sound is_refused l least k = fits_sound _ (ends_fits s n lent short _)
     shape_sound (is_given {r} {x} {again} q) l least (live h f) = gives_sound r x again h f (q l)
-    shape_sound (is_removed {how} {r} {x}) l least (live h f) = fits_sound _ (one_fits (Edit.Kill how r x) (join (lt-ltb r n h) f))
+    shape_sound (is_removed how {r} {x}) l least (live h f) = fits_sound _ (one_fits (Edit.Kill how r x) (join (lt-ltb r n h) f))
     shape_sound (is_placed {seen}) l least (through f) = fits_sound _ (by_room s n (value_lent lent) (λ room. PlanFits s n lent (place_plan room)) seen place_fits_lem f)
     shape_sound (is_anew q) l least k = fits_sound _ (anew_fits (q l) least)
 

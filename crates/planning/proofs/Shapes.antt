@@ -30,7 +30,7 @@ renews true lent = lent_to_append lent
 pub data Shape (n : ℕ) (lent : Lent) (t : Bool) : Looked → Plan → Type 0 where
   is_refused : {looked : Looked} → Shape n lent t looked (refuses (refused_by looked))
   is_given : {r : ℕ} {x : Record} {again : Bool} → (t ≡ true → renews again lent ≡ true) → Shape n lent t (Looked.Live r x) (gives r x again)
-  is_removed : {how : Removal} {r : ℕ} {x : Record} → Shape n lent t (Looked.Live r x) (writes (Edits.One (Edit.Kill how r x)))
+  is_removed : (how : Removal) {r : ℕ} {x : Record} → Shape n lent t (Looked.Live r x) (writes (Edits.One (Edit.Kill how r x)))
   is_placed : {seen : Seen} → Shape n lent t (Looked.Through seen) (append_plan (Looked.Through seen))
   is_anew : {looked : Looked} → (t ≡ true → lent_to_append lent ≡ true) → Shape n lent t looked (anew n)
 
@@ -57,7 +57,7 @@ module _ (n : ℕ) (lent : Lent) where
   append_shape (Looked.Through seen) = is_placed
 
   remove_shape : {t : Bool} (how : Removal) (looked : Looked) → Shape n lent t looked (remove_plan how (hit_by looked))
-  remove_shape how (Looked.Live r x) = is_removed
+  remove_shape how (Looked.Live r x) = is_removed how
   remove_shape how (Looked.Bad f p) = is_refused
   remove_shape how (Looked.Through seen) = is_refused
 

@@ -99,7 +99,7 @@ refused_low (Looked.Through seen) = omega arith
 shape_low : {n : ℕ} {lent : Lent} {t : Bool} {looked : Looked} {p : Plan} → Shape n lent t looked p → end_refusal 0 p.next ≤ 10
 shape_low (is_refused {looked}) = refused_low looked
 shape_low (is_given h) = omega arith
-shape_low is_removed = omega arith
+shape_low (is_removed how) = omega arith
 shape_low (is_placed {seen}) = by_place (λ (p : Plan). end_refusal 0 p.next ≤ 10) place_low seen
 shape_low (is_anew h) = omega arith
 

@@ -1,6 +1,8 @@
 -- `advancing::advance::next_plan` meets its contract: what each reply leaves.
 -- Assumes nothing.
-use mathlib.Core.Path.{refl, ◌∙◌, ap}
+use mathlib.Core.Path.{◌≡◌, refl, ◌∙◌, ap}
+use borrow.Author.Rules.{rules}
+use Rattle.running.specs.declared.Reply.{Reply}
 use Rattle.plans.specs.declared.Plan.{Plan}
 use Rattle.advancing.specs.Advance.{given, filled}
 use Rattle.advancing.proofs.Keeps.{advance_gives}
@@ -14,7 +16,9 @@ pub returns-in-NotReady : goal.returns-in-NotReady
 returns-in-NotReady c = rw c.in-NotReady.is (refl, refl)
 
 pub returns-in_default-reply-2 : goal.returns-in_default-reply-2
-returns-in_default-reply-2 c = rw (failed c.args.reply c.in_default.not-Begin c.in_default-reply.not-NotReady c.in_default-reply-2.not-Done) (c.refuse.ensures, refl)
+returns-in_default-reply-2 c =
+    let other : c.args.reply ≡ Reply.Failed = search (failed, rules) in
+    rw other (c.refuse.ensures, refl)
 
 pub give-requires : goal.give-requires
 give-requires c = let a = c.args in rw c.advanced.ensures (advance_gives a.op a.region.now c.requires.0 c.requires.1)
@@ -23,5 +27,6 @@ pub returns : goal.returns
 returns c =
     let a = c.args in
     let e = c.advanced.ensures in
-    rw c.in-Done.is
+    let done : a.reply ≡ Reply.Done = search rules in
+    rw done
     (c.give.ensures.0 ∙ ap (given a.op.n a.op.lent a.region.now) e, c.give.ensures.1 ∙ ap (λ (p : Plan). filled a.op.lent a.region.now p a.buffer.now) e)
