@@ -14,7 +14,12 @@ pub fn lay(region: &mut [u8], at: usize, new: &[u8])
     requires { at + length new.now ≤ length region.old }
     ensures { region.new ≡ sets region.old at new.now }
 {
-    region[at..at + new.len()].copy_from_slice(new);
+    let mut i: usize = 0;
+    while i < new.len() {
+        let place = at + i;
+        region[place] = new[i];
+        i += 1;
+    }
 }
 
 // A live record of the key and the value, laid into a region. The sum goes over header and value where they lie, and copies neither.

@@ -37,8 +37,8 @@ pub fn copy_value(region: &[u8], rec: Record, buffer: &mut [u8])
     let len = rec.len - Record::LEAST;
     let most = buffer.len();
     if most < len {
-        buffer.copy_from_slice(&region[from..from + most]);
+        placing::lay(buffer, 0, &region[from..from + most]);
         return;
     }
-    buffer[..len].copy_from_slice(&region[from..from + len]);
+    placing::lay(buffer, 0, &region[from..from + len]);
 }

@@ -2,7 +2,7 @@
 -- Assumes nothing.
 use Prim.Native.Nat.{ℕ, ◌+◌, ◌<◌}
 use native.Mathlib.Omega.{arith}
-use mathlib.Core.Path.{◌≡◌, sym, ◌∙◌, ap}
+use mathlib.Core.Path.{◌≡◌, ◌∙◌, ap}
 use mathlib.Core.List.{List}
 use lib.ListN.{length, drop}
 use borrow.Author.Tests.{not-true, not-false}
@@ -15,13 +15,13 @@ pub returns-then-byte_at-ne32 : goal.returns-then-byte_at-ne32
 returns-then-byte_at-ne32 c = no_space c.args.input.now c.read_number-size.ensures.1 c.byte_at.ensures c.if-byte_at-ne32.true
 
 pub overflow_add-size : goal.overflow_add-size
-overflow_add-size c = let i = byte_inside c.args.input.now c.read_number-size.result.end 32 (sym c.byte_at.ensures ∙ c.if-byte_at-ne32.false) (omega arith) in record { fits = omega arith }
+overflow_add-size c = let i = byte_inside c.args.input.now c.read_number-size.result.end 32 (cc) (omega arith) in record { fits = omega arith }
 
 pub returns-then-byte_at-ne10 : goal.returns-then-byte_at-ne10
 returns-then-byte_at-ne10 c = no_feed c.args.input.now c.read_number-size.ensures.1 c.byte_at.ensures c.read_number-count.ensures.1 c.byte_at-2.ensures c.if-byte_at-ne10.true
 
 inside : (c : After-struct_known-2-1) → c.read_number-count.result.end < length c.args.input.now
-inside c = byte_inside c.args.input.now c.read_number-count.result.end 10 (sym c.byte_at-2.ensures ∙ c.if-byte_at-ne10.false) (omega arith)
+inside c = byte_inside c.args.input.now c.read_number-count.result.end 10 (cc) (omega arith)
 
 pub overflow_add-start : goal.overflow_add-start
 overflow_add-start c = let i = inside (goal.at.overflow_add-start c).After-struct_known-2-1 in record { fits = omega arith }

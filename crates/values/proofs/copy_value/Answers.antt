@@ -7,9 +7,9 @@ use Rattle.values.proofs.copy_value.Goals as goal
 pub returns-then-most-len : goal.returns-then-most-len
 returns-then-most-len c =
     let a = c.args in
-    copied_front a.region.now a.rec a.buffer.now c.requires.0 c.requires.1 (omega arith) c.copy_from_slice.ensures.after
+    copied_front a.region.now a.rec a.buffer.now c.requires.0 c.requires.1 (omega arith) c.lay.ensures
 
 pub returns : goal.returns
 returns c =
     let a = c.args in
-    copied_whole a.region.now a.rec a.buffer.now c.requires.0 c.requires.1 (omega arith) c.copy_from_slice-2.ensures.after
+    copied_whole a.region.now a.rec a.buffer.now c.requires.0 c.requires.1 (omega arith) c.lay-2.ensures
