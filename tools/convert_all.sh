@@ -1,9 +1,9 @@
 #!/bin/bash
 # convert_all.sh CRATE..: gets the crate's names.json (libraries below passed as source, no proof checked) and turns its Proof.antt files.
-# NAMES=DIR is where names.json is kept (default /tmp/old-names); other arguments in CONVERT_FLAGS, as --remove.
+# NAMES=DIR is where names.json is kept (default target/old-names); other arguments in CONVERT_FLAGS, as --remove.
 here=$(cd "$(dirname "$0")" && pwd)
 root=$(dirname "$here")
-names=${NAMES:-/tmp/old-names}
+names=${NAMES:-$root/target/old-names}
 mkdir -p "$names"
 for c in "$@"; do
     rm -rf "$names/$c"

@@ -2,7 +2,7 @@
 """convert_proofs.py CRATE_FOLDER NAMES_JSON [--remove] [--only F]
 
 Turns each proofs/**/Proof.antt by hand into Invariants.antt and Answers.antt, by the names that
-`rattle check --generated DIR --old-names` writes. The old file goes to $OLD_PROOFS (default /tmp/old-proofs)/CRATE/.., or with --remove nowhere.
+`rattle check --generated DIR --old-names` writes. The old file goes to $OLD_PROOFS (default target/old-proofs)/CRATE/.., or with --remove nowhere.
 Prints for each function what it could not turn. Lines with TODO in the files are for hand work.
 """
 import json, os, re, sys
@@ -501,7 +501,7 @@ def main():
     only = sys.argv[sys.argv.index("--only") + 1] if "--only" in sys.argv else None
     crate = os.path.basename(folder)
     data = json.load(open(names))
-    old_home = os.environ.get("OLD_PROOFS", "/tmp/old-proofs")
+    old_home = os.environ.get("OLD_PROOFS", os.path.join(os.path.dirname(os.path.dirname(folder)), "target", "old-proofs"))
     done = left = 0
     for at, _, found in sorted(os.walk(f"{folder}/proofs")):
         if "Proof.antt" not in found:

@@ -14,6 +14,7 @@ use lib.ListN.{length, get_or, take, drop, set, length-set, drop_of_length-le}
 use lib.Seq.{sets, drop-cons, get_or-set_other}
 use borrow.Author.Tests.{eq-eqb, ne_eqb, eqb-true}
 use Rattle.chip.specs.Chip.{Bytes, written, erased, is_blank}
+use Rattle.chip.proofs.Runs.{written_run, run_one, run_none}
 
 -- A write.
 
@@ -24,12 +25,11 @@ length-written image at (b ∷ new) = length-written (set image at _) (suc at) n
 
 pub written_one : (image new : List ℕ) (at i : ℕ) → i < length new
     → written (set image (at + i) (bit_and (get_or image (at + i) 0) (get_or new i 0))) (at + (i + 1)) (drop (i + 1) new) ≡ written image (at + i) (drop i new)
-unfolding written
-written_one image new at i h = rw (drop-cons new i 0 h, add-one, add-suc)
+unfolding written_run
+written_one image new at i h = run_one written_run image new at i h
 
 pub written_none : (image new : List ℕ) (at i : ℕ) → length new ≤ i → written image at (drop i new) ≡ image
-unfolding written
-written_none image new at i h = rw (drop_of_length-le new h)
+written_none image new at i h = run_none written_run image new at i h
 
 -- A list of bytes: each below 256.
 

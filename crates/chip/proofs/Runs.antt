@@ -2,12 +2,13 @@
 -- Proved once for every rule by which the old byte and the new make the stored one, by induction on the new bytes. Assumes nothing.
 use Prim.Native.Nat.{ℕ, suc, ◌+◌, ◌≤◌, ◌<◌}
 use native.Mathlib.Nat.{add-suc}
+use native.Mathlib.Numerals.{add-one}
 use native.Mathlib.Omega.{arith}
 use mathlib.Core.Path.{◌≡◌, refl, sym, ◌∙◌, ap}
 use mathlib.Core.List.{List, [], ◌∷◌, ◌++◌}
 use lib.Bits.{bit_and}
-use lib.ListN.{length, get_or, take, drop, set}
-use lib.Seq.{sets, get_or-take, get_or-drop, take-set-le, take-set-lt, drop-set-lt, drop-set-add, drop-drop}
+use lib.ListN.{length, get_or, take, drop, set, drop_of_length-le}
+use lib.Seq.{sets, drop-cons, get_or-take, get_or-drop, take-set-le, take-set-lt, drop-set-lt, drop-set-add, drop-drop}
 use borrow.Rule.Slice.PartMut.{mid_of, put_mid, put_same}
 use Rattle.chip.specs.Chip.{written}
 
@@ -17,10 +18,10 @@ pub record Run (g : List ℕ → ℕ → List ℕ → List ℕ) : Type 0 where
   pub none : (l : List ℕ) (p : ℕ) → g l p [] ≡ l
   pub one : (l : List ℕ) (p x : ℕ) (b : List ℕ) → g l p (x ∷ b) ≡ g (set l p (byte (get_or l p 0) x)) (suc p) b
 
-pub sets-run : Run sets
+unfoldable pub sets-run : Run sets
 sets-run = record { byte = λ old new. new; none = λ l p. refl; one = λ l p x b. refl }
 
-pub written_run : Run written
+unfoldable pub written_run : Run written
 unfolding written
 written_run = record { byte = bit_and; none = λ l p. refl; one = λ l p x b. refl }
 
@@ -36,6 +37,15 @@ within_back {l'} {l} {a} {k} w =
     (λ i. sym w.before i ++ (mid_of a k l' ++ d i)) ∙ put_same a k l'
 
 module _ {g : List ℕ → ℕ → List ℕ → List ℕ} (run : Run g) where
+  -- A run a byte at a time, as a loop goes: the one at i is stored, and the rest from i + 1 on; none is left at the end.
+  pub run_one : (l b : List ℕ) (p i : ℕ) → i < length b → g (set l (p + i) (run.byte (get_or l (p + i) 0) (get_or b i 0))) (p + (i + 1)) (drop (i + 1) b) ≡ g l (p + i) (drop i b)
+  run_one l b p i h =
+      rw (drop-cons b i 0 h, add-one, add-suc)
+      (sym (run.one l (p + i) (get_or b i 0) (drop (suc i) b)))
+
+  pub run_none : (l b : List ℕ) (p i : ℕ) → length b ≤ i → g l p (drop i b) ≡ l
+  run_none l b p i h = rw (drop_of_length-le b h) (run.none l p)
+
   run_before : (l : List ℕ) (p : ℕ) (b : List ℕ) (m : ℕ) → m ≤ p → take m (g l p b) ≡ take m l
   run_before l p [] m h = ap (take m) (run.none l p)
   run_before l p (x ∷ b) m h =

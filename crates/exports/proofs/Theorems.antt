@@ -1,4 +1,4 @@
--- What a C or Rust caller can count on: of one step over any numbers and any bytes that it passes, and of the fourteen exports, that no two results
+-- What a C or Rust caller can count on: of one step over any numbers and any bytes that it passes, and of the sixteen exports, that no two results
 -- are allowed for one input. The arguments: Read.antt (what the numbers say), Called.antt (a step by what its numbers stand for), Numbers.antt (what is
 -- true of the steps of operations is true of steps in numbers), Handed.antt (what a step hands back that is no BadCall).
 -- Assumes nothing.
@@ -93,7 +93,7 @@ only_one : {A : Type 0} {right a a' : A} → a ≡ right → a' ≡ right → a 
 only_one p p' = p ∙ sym p'
 
 only_two : {answer a a' : CAnswer} {left b b' : List ℕ} → (a ≡ answer) × (b ≡ left) → (a' ≡ answer) × (b' ≡ left) → (a ≡ a') × (b ≡ b')
-only_two (p, q) (p', q') = (only_one p p', only_one q q')
+only_two = two_alone
 
 -- R7.5: the one-call form: the answer, and get's buffer or the image at exit.
 module _ (image : List ℕ) (s n : ℕ) {a a' : CAnswer} {b b' : List ℕ} where

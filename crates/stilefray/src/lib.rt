@@ -1,5 +1,5 @@
-// The store as C and Rust link it: every call of the one-call and of the stepped form under a name that begins with `stilefray_`, with
-// numbers, lent bytes and plain structs. None asks anything of its caller: any numbers that C can pass are answered.
+// The store as C and Rust call it, by the crate `stilefray_c`: every call of the one-call and of the stepped form under a name that begins with
+// `stilefray_`, with numbers, lent bytes and plain structs. None asks anything of its caller: any numbers that C can pass are answered.
 
 #![tactic(auto)]
 

@@ -1,5 +1,5 @@
--- `chip::fill` meets its contract. The loop's invariant: the places passed hold the value, the others what they held.
--- The measure is what is left of the length. Assumes nothing.
+-- `chip::fill` meets its contract.
+-- Invariant and measure: Invariants.antt. Assumes nothing.
 use Prim.Native.Nat.{ℕ}
 use native.Mathlib.Omega.{arith}
 use mathlib.Core.Path.{◌≡◌, ap, ◌∙◌}

@@ -1,5 +1,5 @@
--- `chip::is_blank` meets its contract. The loop's invariant: what is left decides as the whole does.
--- The measure is what is left of the length. Assumes nothing.
+-- `chip::is_blank` meets its contract.
+-- Invariant and measure: Invariants.antt. Assumes nothing.
 use mathlib.Core.Path.{sym, ◌∙◌}
 use Rattle.chip.proofs.Laws.{blank_one, blank_not, blank_none}
 use borrow.Author.Rules.{rules}

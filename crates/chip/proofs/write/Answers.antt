@@ -1,5 +1,5 @@
--- `chip::write` meets its contract. The loop's invariant: what is left to write, written, gives the whole.
--- The measure is what is left of the new bytes. Assumes nothing.
+-- `chip::write` meets its contract.
+-- Invariant and measure: Invariants.antt. Assumes nothing.
 use Prim.Native.Nat.{◌+◌}
 use native.Mathlib.Nat.{add-zero}
 use mathlib.Core.Path.{refl, sym, ◌∙◌}

@@ -9,8 +9,8 @@ use Rattle.crc32.proofs.Theorems.{in_two_parts}
 use Rattle.crc32.proofs.checksum_of_two.Goals as goal
 
 -- the checksum, by the states x after the first part and y after the second
-by-states : (a b : List ℕ) (x y r : ℕ) → x ≡ run 0 a → y ≡ run x b → r ≡ finish y → r ≡ checksum (a ++ b)
-by-states a b x y r p q e = cc (in_two_parts a b)
+by_states : (a b : List ℕ) (x y r : ℕ) → x ≡ run 0 a → y ≡ run x b → r ≡ finish y → r ≡ checksum (a ++ b)
+by_states a b x y r p q e = cc (in_two_parts a b)
 
 pub returns : goal.returns
-returns c = search (by-states, rules)
+returns c = search (by_states, rules)

@@ -1,5 +1,5 @@
--- `crc32::update` meets its contract. The loop's invariant: the bytes that are left, after the state, make what all of them make after the first state.
--- The measure is what is left of the length. Assumes nothing.
+-- `crc32::update` meets its contract.
+-- Invariant and measure: Invariants.antt. Assumes nothing.
 use borrow.Author.Rules.{rules}
 use Rattle.crc32.proofs.Run.{run_next, run_end}
 use Rattle.crc32.proofs.update.Goals as goal

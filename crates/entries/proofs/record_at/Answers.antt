@@ -15,8 +15,8 @@ chip : (c : Else-region-n) → let a = c.args in Fits a.image.now a.s a.n
 chip c = geometry_fits (sym c.fits.ensures ∙ not-false _ c.if-not-fits.false-raw)
 
 -- what the code found in the region is what stands there in the chip
-entry-is : (c : After-look_in-entry) → let a = c.args in c.look_in-entry.result ≡ entry_at a.image.now a.s a.n a.region a.at
-entry-is c =
+entry_is : (c : After-look_in-entry) → let a = c.args in c.look_in-entry.result ≡ entry_at a.image.now a.s a.n a.region a.at
+entry_is c =
     let a = c.args in
     c.look_in-entry.ensures
     ∙ ap (λ part. entry_in part a.at) (part_region a.s a.image.now a.region)
@@ -46,7 +46,7 @@ slice_bounds-look_in-end c = region_inside (chip (goal.at.slice_bounds-look_in-e
 pub overflow_add-result : goal.overflow_add-result
 overflow_add-result c =
     let a = c.args in
-    omega (arith, stands_small (chip (goal.at.overflow_add-result c).Else-region-n) a.region a.at c.if-region-n.false (sym (entry-is (goal.at.overflow_add-result c).After-look_in-entry) ∙ c.in-Stands.is))
+    omega (arith, stands_small (chip (goal.at.overflow_add-result c).Else-region-n) a.region a.at c.if-region-n.false (sym (entry_is (goal.at.overflow_add-result c).After-look_in-entry) ∙ c.in-Stands.is))
 
 -- src/lib.rt:113:24
 pub go_on-requires : goal.go_on-requires
@@ -60,28 +60,28 @@ go_on-requires-in-Bad c = omega (arith, regions_few (chip (goal.at.go_on-require
 pub returns-in-Stands : goal.returns-in-Stands
 returns-in-Stands c =
     let a = c.args in
-    ap (shown a.region a.at) (sym c.in-Stands.is ∙ entry-is (goal.at.returns-in-Stands c).After-look_in-entry)
+    ap (shown a.region a.at) (sym c.in-Stands.is ∙ entry_is (goal.at.returns-in-Stands c).After-look_in-entry)
 
 -- src/lib.rt:93:1
 pub returns-in-Ends : goal.returns-in-Ends
 returns-in-Ends c =
     let a = c.args in
-    c.go_on.ensures ∙ ap (λ e. going_on e a.region) c.in-Ends.is ∙ ap (shown a.region a.at) (sym c.in-Ends.is ∙ entry-is (goal.at.returns-in-Ends c).After-look_in-entry)
+    c.go_on.ensures ∙ ap (λ e. going_on e a.region) c.in-Ends.is ∙ ap (shown a.region a.at) (sym c.in-Ends.is ∙ entry_is (goal.at.returns-in-Ends c).After-look_in-entry)
 
 -- src/lib.rt:93:1
 pub returns-in-Bad : goal.returns-in-Bad
 returns-in-Bad c =
     let a = c.args in
-    c.go_on-in-Bad.ensures ∙ ap (λ e. going_on e a.region) c.in-Bad.is ∙ ap (shown a.region a.at) (sym c.in-Bad.is ∙ entry-is (goal.at.returns-in-Bad c).After-look_in-entry)
+    c.go_on-in-Bad.ensures ∙ ap (λ e. going_on e a.region) c.in-Bad.is ∙ ap (shown a.region a.at) (sym c.in-Bad.is ∙ entry_is (goal.at.returns-in-Bad c).After-look_in-entry)
 
 -- src/lib.rt:93:1
 pub returns-in-Over : goal.returns-in-Over
 returns-in-Over c =
     let a = c.args in
-    c.stay-in-Over.ensures ∙ ap (λ e. staying e a.region a.at) c.in-Over.is ∙ ap (shown a.region a.at) (sym c.in-Over.is ∙ entry-is (goal.at.returns-in-Over c).After-look_in-entry)
+    c.stay-in-Over.ensures ∙ ap (λ e. staying e a.region a.at) c.in-Over.is ∙ ap (shown a.region a.at) (sym c.in-Over.is ∙ entry_is (goal.at.returns-in-Over c).After-look_in-entry)
 
 -- src/lib.rt:93:1
 pub returns-in-Refused : goal.returns-in-Refused
 returns-in-Refused c =
     let a = c.args in
-    c.stay-in-Refused.ensures ∙ ap (λ e. staying e a.region a.at) c.in-Refused.is ∙ ap (shown a.region a.at) (sym c.in-Refused.is ∙ entry-is (goal.at.returns-in-Refused c).After-look_in-entry)
+    c.stay-in-Refused.ensures ∙ ap (λ e. staying e a.region a.at) c.in-Refused.is ∙ ap (shown a.region a.at) (sym c.in-Refused.is ∙ entry_is (goal.at.returns-in-Refused c).After-look_in-entry)

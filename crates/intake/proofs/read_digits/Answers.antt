@@ -1,5 +1,5 @@
--- `intake::read_digits` meets its contract. The loop's invariant: what is left, read on from what is held, gives the number.
--- The measure is what is left of the length. Assumes nothing.
+-- `intake::read_digits` meets its contract.
+-- Invariant and measure: Invariants.antt. Assumes nothing.
 use Prim.Native.Nat.{ℕ, ◌≤◌}
 use native.Mathlib.Omega.{arith}
 use mathlib.Core.Bool.{true}
@@ -20,11 +20,11 @@ returns-then-not-is_digit c = reading_stops c.loop-end.invariant c.loop-end-test
 abbrev byte : Else-not-is_digit → ℕ
 byte c = get_or c.args.input.now c.loop-end.end 0
 
-digit-here : (c : Else-not-is_digit) → is_digit (byte c) ≡ true
-digit-here c = sym c.is_digit.ensures ∙ not-false _ c.if-not-is_digit.false-raw
+digit_here : (c : Else-not-is_digit) → is_digit (byte c) ≡ true
+digit_here c = sym c.is_digit.ensures ∙ not-false _ c.if-not-is_digit.false-raw
 
 range : (c : Else-not-is_digit) → (48 ≤ byte c) × (byte c ≤ 57)
-range c = digit_range (byte c) (digit-here c)
+range c = digit_range (byte c) (digit_here c)
 
 pub overflow_sub-digit : goal.overflow_sub-digit
 overflow_sub-digit c = omega (arith, (range (goal.at.overflow_sub-digit c).Else-not-is_digit).0)
@@ -39,7 +39,7 @@ pub overflow_add-value : goal.overflow_add-value
 overflow_add-value c = record { fits = omega (arith, (range (goal.at.overflow_add-value c).Else-not-is_digit).1, c.loop-end.invariant.small) }
 
 pub loop-end-preserved : goal.loop-end-preserved
-loop-end-preserved c = reading_on c.loop-end.invariant c.loop-end-test.true (digit-here (goal.at.loop-end-preserved c).Else-not-is_digit) c.hold-value.ensures
+loop-end-preserved c = reading_on c.loop-end.invariant c.loop-end-test.true (digit_here (goal.at.loop-end-preserved c).Else-not-is_digit) c.hold-value.ensures
 
 pub returns : goal.returns
 returns c = reading_over c.loop-end.invariant c.loop-end-test.false

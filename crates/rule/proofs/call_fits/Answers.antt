@@ -7,8 +7,8 @@ use Rattle.rule.specs.Rule.{rule, call_fits}
 use Rattle.rule.proofs.call_fits.Goals as goal
 use Rattle.rule.proofs.call_fits.Goals.{Else-not-keeps_rule}
 
-rule-here : (c : Else-not-keeps_rule) → rule c.args.op ≡ true
-rule-here c = sym c.keeps_rule.ensures ∙ not-false _ c.if-not-keeps_rule.false-raw
+rule_here : (c : Else-not-keeps_rule) → rule c.args.op ≡ true
+rule_here c = sym c.keeps_rule.ensures ∙ not-false _ c.if-not-keeps_rule.false-raw
 
 pub returns-then-not-keeps_rule : goal.returns-then-not-keeps_rule
 unfolding call_fits
@@ -16,17 +16,17 @@ returns-then-not-keeps_rule c = rw (sym c.keeps_rule.ensures ∙ not-true _ c.if
 
 pub returns-then-region-op : goal.returns-then-region-op
 unfolding call_fits
-returns-then-region-op c = rw (rule-here (goal.at.returns-then-region-op c).Else-not-keeps_rule, ne_eqb _ _ c.if-region-op.true)
+returns-then-region-op c = rw (rule_here (goal.at.returns-then-region-op c).Else-not-keeps_rule, ne_eqb _ _ c.if-region-op.true)
 
 pub returns-then-not-buffers_fit : goal.returns-then-not-buffers_fit
 unfolding call_fits
-returns-then-not-buffers_fit c = rw (rule-here (goal.at.returns-then-not-buffers_fit c).Else-not-keeps_rule, eq-eqb _ _ c.if-region-op.false, sym c.buffers_fit.ensures ∙ not-true _ c.if-not-buffers_fit.true-raw)
+returns-then-not-buffers_fit c = rw (rule_here (goal.at.returns-then-not-buffers_fit c).Else-not-keeps_rule, eq-eqb _ _ c.if-region-op.false, sym c.buffers_fit.ensures ∙ not-true _ c.if-not-buffers_fit.true-raw)
 
 pub returns : goal.returns
 unfolding call_fits
 returns c =
     rw (
-      rule-here (goal.at.returns c).Else-not-keeps_rule,
+      rule_here (goal.at.returns c).Else-not-keeps_rule,
       eq-eqb _ _ c.if-region-op.false,
       sym c.buffers_fit.ensures ∙ not-false _ c.if-not-buffers_fit.false-raw,
     ) c.reply_fits.ensures

@@ -1,5 +1,5 @@
--- `august::table::rows` meets its contract, that it is safe and ends. The loop's invariant: the place lies in the region.
--- The measure is what is left of the region. Assumes nothing.
+-- `august::table::rows` meets its contract, that it is safe and ends.
+-- Invariant and measure: Invariants.antt. Assumes nothing.
 use Prim.Native.Nat.{◌+◌, ◌≤◌}
 use native.Mathlib.Omega.{arith}
 use mathlib.Core.Path.{◌∙◌, sym}

@@ -1,5 +1,5 @@
--- `lookup::turns::look_up` meets its contract. The loop's invariant: the regions that are left, with what is gathered, decide as all do.
--- The measure is how many regions are left. Assumes nothing.
+-- `lookup::turns::look_up` meets its contract.
+-- Invariant and measure: Invariants.antt. Assumes nothing.
 use Prim.Native.Nat.{ℕ, ◌≤◌, ◌<◌, ◌+◌, ◌-◌, ◌*◌, ◌^◌}
 use native.Mathlib.Numerals.{add-one}
 use native.Mathlib.Omega.{arith}

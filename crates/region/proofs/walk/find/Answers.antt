@@ -1,5 +1,5 @@
--- `region::walk::find` meets its contract. The loop's invariant: the search from the place finds what the whole search finds.
--- The measure is what is left of the region. Assumes nothing.
+-- `region::walk::find` meets its contract.
+-- Invariant and measure: Invariants.antt. Assumes nothing.
 use Prim.Native.Nat.{ℕ, ◌≤◌, ◌+◌}
 use native.Mathlib.Omega.{arith}
 use mathlib.Core.Path.{◌≡◌, refl, sym, ◌∙◌}

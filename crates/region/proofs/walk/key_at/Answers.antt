@@ -1,5 +1,5 @@
--- `region::walk::key_at` meets its contract. The loop's invariant: `key` is the number that the first `i` bytes say.
--- The measure is how many of the eight are left. Assumes nothing.
+-- `region::walk::key_at` meets its contract.
+-- Invariant and measure: Invariants.antt. Assumes nothing.
 use Prim.Native.Nat.{ℕ, ◌<◌, ◌+◌}
 use native.Mathlib.Numerals.{add-one}
 use native.Mathlib.Omega.{arith}

@@ -1,5 +1,5 @@
--- `store::collect::garbage_collect` meets its contract. The loop's invariant: what is left to do is what the whole would do.
--- The measure is how many regions are left. Assumes nothing.
+-- `store::collect::garbage_collect` meets its contract.
+-- Invariant and measure: Invariants.antt. Assumes nothing.
 use native.Mathlib.Omega.{arith}
 use mathlib.Core.Path.{refl, sym, ◌∙◌}
 use borrow.Author.Rules.{rules}

@@ -1,5 +1,5 @@
--- `store::write::make_edits` meets its contract. The loop's invariant: what is left, on the image as it now is, makes what the whole makes.
--- The measure is how many edits are left. Assumes nothing.
+-- `store::write::make_edits` meets its contract.
+-- Invariant and measure: Invariants.antt. Assumes nothing.
 use borrow.Author.Rules.{rules}
 use Rattle.store.proofs.Edits.{left_start, left_end, left_fits, left_next, left_less}
 use Rattle.store.proofs.write.make_edits.Goals as goal
