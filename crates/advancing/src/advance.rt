@@ -4,10 +4,10 @@ ghost use Rattle.plans.specs.Fits.{then_fits};
 ghost use Rattle.running.specs.Ruled.{Ruled};
 ghost use Rattle.advancing.specs.Advance.{closes, turned_to, seek_next, advance, given, copied, filled, next_plan, buffer_on};
 
-use format::Record;
 use lookup::{Seen, Turn};
 use plans::{Aim, Edits, First, Lent, Plan, Then};
 use refusals::Refusal;
+use region::Standing;
 use running::{Op, Reply};
 
 // The last region's turn closes the lookup.
@@ -98,14 +98,13 @@ fn advanced(op: Op, region: &[u8]) -> Plan
 }
 
 // A record's value goes to the buffer where one is lent.
-fn copy_lent(lent: Lent, rec: Record, region: &[u8], buffer: &mut [u8])
-    requires { (15 ≤ rec.len) × (rec.at + rec.len ≤ length region.now) }
-    ensures { buffer.new ≡ copied lent region.now rec buffer.old }
+fn copy_lent(lent: Lent, found: &Standing, buffer: &mut [u8])
+    ensures { buffer.new ≡ copied lent found.now.region.now found.now.rec buffer.old }
 {
     let Lent::Buffer(_) = lent else {
         return;
     };
-    values::copy_value(region, rec, buffer);
+    values::copy_value(found, buffer);
 }
 
 // Where a value is to be given, it is copied from the region just read, and its answer says what follows.
@@ -122,8 +121,9 @@ fn give(n: usize, lent: Lent, plan: Plan, region: &[u8], buffer: &mut [u8]) -> P
     else {
         return plan;
     };
-    copy_lent(lent, rec, region, buffer);
-    planning::given_plan(n, anew, values::read_answer(region, rec, lent.buffer()))
+    let found = Standing { region, rec };
+    copy_lent(lent, &found, buffer);
+    planning::given_plan(n, anew, values::read_answer(&found, lent.buffer()))
 }
 
 // What is left with the host's reply.

@@ -2,12 +2,14 @@
 
 #![tactic(auto)]
 
+mod standing;
 mod walk;
 
 ghost use Rattle.std.specs.Prelude.{◌≡◌};
 ghost use Rattle.region.specs.Walk.{is_wanted, event_of};
 
 use format::{Fault, Record};
+pub use standing::Standing;
 pub use walk::{find, look};
 
 // R4.7: how and where the walk of a region stopped: at its end, or at a bad place.

@@ -4,6 +4,7 @@ ghost use Rattle.store.specs.Read.{get_of};
 
 use lookup::Hit;
 use plans::Answer;
+use region::Standing;
 
 // R5.2: get.
 pub fn get_key(image: &[u8], s: usize, n: usize, key: u64, buffer: &mut [u8]) -> Answer
@@ -15,9 +16,13 @@ pub fn get_key(image: &[u8], s: usize, n: usize, key: u64, buffer: &mut [u8]) ->
         Hit::Live { region, rec } => {
             let a = region * s;
             let e = a + s;
+            let found = Standing {
+                region: &image[a..e],
+                rec,
+            };
             let capacity = buffer.len();
-            values::copy_value(&image[a..e], rec, buffer);
-            values::read_answer(&image[a..e], rec, capacity)
+            values::copy_value(&found, buffer);
+            values::read_answer(&found, capacity)
         }
     }
 }

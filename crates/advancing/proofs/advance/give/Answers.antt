@@ -11,17 +11,11 @@ use Rattle.advancing.proofs.advance.give.Goals as goal
 pub returns-in_default : goal.returns-in_default
 returns-in_default c = let a = c.args in not_gives a.n a.lent a.region.now a.plan a.plan.next a.buffer.now c.in_default.not-Gives
 
-pub copy_lent-requires : goal.copy_lent-requires
-copy_lent-requires c =
+pub invariant_of-found : goal.invariant_of-found
+invariant_of-found c =
     let a = c.args in
     let (_, least, _, fits) = in_chip (length a.region.now) a.n c.in-Gives.region c.in-Gives.rec (rw c.in-Gives.is at c.requires) in
-    (least, fits)
-
-pub read_answer-requires : goal.read_answer-requires
-read_answer-requires c =
-    let a = c.args in
-    let (_, least, _, fits) = in_chip (length a.region.now) a.n c.in-Gives.region c.in-Gives.rec (rw c.in-Gives.is at c.requires) in
-    (least, fits)
+    record { least = least; inside = fits }
 
 pub returns : goal.returns
 returns c =

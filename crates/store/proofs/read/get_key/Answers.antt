@@ -30,17 +30,11 @@ overflow_mul-a c = let h = here (goal.at.overflow_mul-a c).In-Live in omega (ari
 pub overflow_add-e : goal.overflow_add-e
 overflow_add-e c = let h = here (goal.at.overflow_add-e c).In-Live in omega (arith, h.inside, h.small)
 
-pub slice_bounds-copy_value-end : goal.slice_bounds-copy_value-end
-slice_bounds-copy_value-end c = (here (goal.at.slice_bounds-copy_value-end c).In-Live).inside
+pub slice_bounds-found-end : goal.slice_bounds-found-end
+slice_bounds-found-end c = (here (goal.at.slice_bounds-found-end c).In-Live).inside
 
-pub copy_value-requires : goal.copy_value-requires
-copy_value-requires c = lies (goal.at.copy_value-requires c).In-Live
-
-pub slice_bounds-read_answer-end : goal.slice_bounds-read_answer-end
-slice_bounds-read_answer-end c = (here (goal.at.slice_bounds-read_answer-end c).In-Live).inside
-
-pub read_answer-requires : goal.read_answer-requires
-read_answer-requires c = lies (goal.at.read_answer-requires c).In-Live
+pub invariant_of-found : goal.invariant_of-found
+invariant_of-found c = let l = lies (goal.at.invariant_of-found c).In-Live in record { least = l.0; inside = l.1 }
 
 pub returns-in-Refused : goal.returns-in-Refused
 unfolding get_of
