@@ -1,14 +1,13 @@
 // What is left of a plan once its service is done, and get's copy.
 ghost use Rattle.std.specs.Prelude.{◌≡◌, true, ◌+◌, ◌≤◌, ◌<◌, length};
 ghost use Rattle.plans.specs.Fits.{then_fits};
-ghost use Rattle.running.specs.Ruled.{Ruled};
 ghost use Rattle.advancing.specs.Advance.{closes, turned_to, seek_next, advance, given, copied, filled, next_plan, buffer_on};
 
 use lookup::{Seen, Turn};
 use plans::{Aim, Edits, First, Lent, Plan, Then};
 use refusals::Refusal;
 use region::Standing;
-use running::{Op, Reply};
+use running::{Reply, RuledOp};
 
 // The last region's turn closes the lookup.
 fn closed(n: usize, i: usize, turn: Turn) -> Turn
@@ -45,10 +44,11 @@ fn turned_to(aim: Aim, n: usize, i: usize, turn: Turn) -> Plan
     }
 }
 
-fn seek_next(op: Op, aim: Aim, i: usize, seen: Seen, region: &[u8]) -> Plan
-    requires { Ruled op × (i < op.n) × (length region.now ≡ op.s) }
-    ensures { result ≡ seek_next op aim i seen region.now }
+fn seek_next(ruled: RuledOp, aim: Aim, i: usize, seen: Seen, region: &[u8]) -> Plan
+    requires { (i < ruled.op.n) × (length region.now ≡ ruled.op.s) }
+    ensures { result ≡ seek_next ruled.op aim i seen region.now }
 {
+    let op = ruled.op;
     let n = op.n;
     let key = op.key;
     let lent = op.lent;
@@ -59,10 +59,11 @@ fn seek_next(op: Op, aim: Aim, i: usize, seen: Seen, region: &[u8]) -> Plan
 }
 
 // The service is done.
-fn advanced(op: Op, region: &[u8]) -> Plan
-    requires { Ruled op × (length region.now ≡ op.s) }
-    ensures { result ≡ advance op region.now }
+fn advanced(ruled: RuledOp, region: &[u8]) -> Plan
+    requires { length region.now ≡ ruled.op.s }
+    ensures { result ≡ advance ruled.op region.now }
 {
+    let op = ruled.op;
     let plan = op.plan;
     let edits = plan.edits;
     let next = plan.next;
@@ -78,7 +79,7 @@ fn advanced(op: Op, region: &[u8]) -> Plan
             edits: Edits::Nil,
             next,
         },
-        Then::Seek { aim, i, seen } => seek_next(op, aim, i, seen, region),
+        Then::Seek { aim, i, seen } => seek_next(ruled, aim, i, seen, region),
         Then::Sweep { region: r, erased } => sweeping::sweep_plan(
             op.s,
             op.n,
@@ -127,10 +128,11 @@ fn give(n: usize, lent: Lent, plan: Plan, region: &[u8], buffer: &mut [u8]) -> P
 }
 
 // What is left with the host's reply.
-pub fn next_plan(op: Op, reply: Reply, region: &[u8], buffer: &mut [u8]) -> Plan
-    requires { Ruled op × (length region.now ≡ op.s) }
-    ensures { (result ≡ next_plan op reply region.now) × (buffer.new ≡ buffer_on op reply region.now buffer.old) }
+pub fn next_plan(ruled: RuledOp, reply: Reply, region: &[u8], buffer: &mut [u8]) -> Plan
+    requires { length region.now ≡ ruled.op.s }
+    ensures { (result ≡ next_plan ruled.op reply region.now) × (buffer.new ≡ buffer_on ruled.op reply region.now buffer.old) }
 {
+    let op = ruled.op;
     let plan = op.plan;
     let lent = op.lent;
     if let Reply::Begin = reply {
@@ -142,5 +144,5 @@ pub fn next_plan(op: Op, reply: Reply, region: &[u8], buffer: &mut [u8]) -> Plan
     let Reply::Done = reply else {
         return plans::refuse(Refusal::FlashFailed);
     };
-    give(op.n, lent, advanced(op, region), region, buffer)
+    give(op.n, lent, advanced(ruled, region), region, buffer)
 }

@@ -4,11 +4,10 @@ ghost use Rattle.std.proofs.lemmas.List.Edits.{sets};
 ghost use Rattle.format.specs.Layout.{record_bytes};
 ghost use Rattle.plans.specs.Writes.{value_lent, value_of, laid_in};
 ghost use Rattle.plans.specs.Fits.{edit_fits};
-ghost use Rattle.running.specs.Ruled.{Ruled};
 ghost use Rattle.laying.specs.Lend.{laid, laid_on};
 
 use plans::{Edit, First, Lent};
-use running::{Op, Reply};
+use running::{Reply, RuledOp};
 
 // The record of an append at its own place in the region: of the lent value, or of none where none is lent.
 fn lay_new(key: u64, lent: Lent, at: usize, region: &mut [u8], value: &[u8])
@@ -43,10 +42,11 @@ fn lay_edit(key: u64, lent: Lent, edit: Edit, n: usize, region: &mut [u8], value
 }
 
 // What an operation waits to have written is laid into the region; where it waits for something else, nothing is.
-fn lay(op: Op, region: &mut [u8], value: &[u8])
-    requires { Ruled op × (length region.old ≡ op.s) × (length (value_of op.lent value.now) ≡ value_lent op.lent) }
-    ensures { region.new ≡ laid op region.old value.now }
+fn lay(ruled: RuledOp, region: &mut [u8], value: &[u8])
+    requires { (length region.old ≡ ruled.op.s) × (length (value_of ruled.op.lent value.now) ≡ value_lent ruled.op.lent) }
+    ensures { region.new ≡ laid ruled.op region.old value.now }
 {
+    let op = ruled.op;
     let lent = op.lent;
     let plan = op.plan;
     let edits = plan.edits;
@@ -61,12 +61,12 @@ fn lay(op: Op, region: &mut [u8], value: &[u8])
 }
 
 // R8.5: "not ready" alters nothing, and a failed service ends the operation.
-pub fn lay_on(reply: Reply, op: Op, region: &mut [u8], value: &[u8])
-    requires { Ruled op × (length region.old ≡ op.s) × (length (value_of op.lent value.now) ≡ value_lent op.lent) }
-    ensures { region.new ≡ laid_on reply op region.old value.now }
+pub fn lay_on(reply: Reply, ruled: RuledOp, region: &mut [u8], value: &[u8])
+    requires { (length region.old ≡ ruled.op.s) × (length (value_of ruled.op.lent value.now) ≡ value_lent ruled.op.lent) }
+    ensures { region.new ≡ laid_on reply ruled.op region.old value.now }
 {
     if let Reply::NotReady = reply {
         return;
     }
-    lay(op, region, value);
+    lay(ruled, region, value);
 }

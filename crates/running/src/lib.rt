@@ -2,6 +2,7 @@
 
 #![tactic(auto)]
 
+mod ruled;
 mod starts;
 mod waits;
 
@@ -11,6 +12,7 @@ ghost use Rattle.running.specs.Waits.{with_plan};
 
 use plans::{Answer, Edit, Lent, Plan};
 use refusals::Refusal;
+pub use ruled::RuledOp;
 pub use starts::{
     start_append, start_collect, start_get, start_initialise, start_invalidate, start_zeroise,
 };

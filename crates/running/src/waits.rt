@@ -5,18 +5,17 @@ ghost use Rattle.format.specs.Layout.{kill_offset, kill_length};
 ghost use Rattle.plans.specs.declared.Edit.TheVariants.{Kill};
 ghost use Rattle.plans.specs.Fits.{edit_fits};
 ghost use Rattle.running.specs.Waits.{wait_of, request_edit, request_of};
-ghost use Rattle.running.specs.Ruled.{Ruled};
 
-use crate::{Op, Request, Wait};
+use crate::{Request, RuledOp, Wait};
 use format::{Record, Removal};
 use plans::{Answer, Edit, First, Then};
 use refusals::Refusal;
 
 // R8.4, R8.5: what an operation waits for. The rule lets none wait before a value that is to be given: BadCall does not come.
-pub fn wait_of(op: Op) -> Wait
-    requires { Ruled op }
-    ensures { result ≡ wait_of op }
+pub fn wait_of(ruled: RuledOp) -> Wait
+    ensures { result ≡ wait_of ruled.op }
 {
+    let op = ruled.op;
     let n = op.n;
     let plan = op.plan;
     let edits = plan.edits;
@@ -95,12 +94,12 @@ fn request_edit(s: usize, n: usize, len: usize, edit: Edit) -> Request
 }
 
 // R8.4: the service that an operation waits for, or its answer. A step asks this of what it has led on, which is not fresh: BadCall does not come.
-pub fn request_of(op: Op) -> Request
-    requires { Ruled op }
-    ensures { result ≡ request_of op }
+pub fn request_of(ruled: RuledOp) -> Request
+    ensures { result ≡ request_of ruled.op }
 {
+    let op = ruled.op;
     let lent = op.lent;
-    let wait = wait_of(op);
+    let wait = wait_of(ruled);
     match wait {
         Wait::Begin => Request::Answers(Answer::Refused(Refusal::BadCall)),
         Wait::Read(region) => Request::Read { region },

@@ -8,7 +8,7 @@ ghost use Rattle.steps.specs.Step.{stepped, region_after, buffer_after};
 
 use plans::Answer;
 use refusals::Refusal;
-use running::{Op, Reply, Request};
+use running::{Op, Reply, Request, RuledOp};
 
 // R8.3: what a step hands back: the operation as it then stands, and a request or the answer.
 #[derive(Clone, Copy)]
@@ -30,11 +30,14 @@ pub fn step(op: Op, reply: Reply, region: &mut [u8], value: &[u8], buffer: &mut 
             request: Request::Answers(Answer::Refused(Refusal::BadCall)),
         };
     }
-    let plan = advancing::next_plan(op, reply, &region[..], buffer);
-    let after = op.with_plan(plan);
+    let before = RuledOp { op };
+    let plan = advancing::next_plan(before, reply, &region[..], buffer);
+    let after = RuledOp {
+        op: op.with_plan(plan),
+    };
     laying::lay_on(reply, after, region, value);
     Stepped {
-        op: after,
+        op: after.op,
         request: running::request_of(after),
     }
 }

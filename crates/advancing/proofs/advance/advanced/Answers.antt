@@ -12,25 +12,25 @@ use Rattle.advancing.proofs.advance.advanced.Goals as goal
 
 pub returns-in-Do : goal.returns-in-Do
 returns-in-Do c =
-    let op = c.args.op in
+    let op = c.args.ruled.op in
     rw (sym c.first_of-first.ensures ∙ c.in-Do.is) (ap (λ (es : Edits). record { edits = es; next = op.plan.next }) c.rest_of.ensures)
 
 pub seek_next-requires : goal.seek_next-requires
 seek_next-requires c =
-    let op = c.args.op in
-    let k = c.requires.0 in
-    (k, (seek_facts op.s op.n op.lent c.in-Seek.aim c.in-Seek.i c.in-Seek.seen (rw c.in-Seek.is at (plan_of op k).next_good)).1, c.requires.1)
+    let op = c.args.ruled.op in
+    let k = c.args.ruled.ruled in
+    ((seek_facts op.s op.n op.lent c.in-Seek.aim c.in-Seek.i c.in-Seek.seen (rw c.in-Seek.is at (plan_of op k).next_good)).1, c.requires)
 
 pub judge-requires : goal.judge-requires
 judge-requires c =
-    let op = c.args.op in
-    let k = c.requires.0 in
-    rw c.requires.1 (omega (arith, region_small (fits_blank k.shape) (sweep_facts op.s op.n op.lent c.in-Sweep.r c.in-Sweep.erased (rw c.in-Sweep.is at (plan_of op k).next_good)).0))
+    let op = c.args.ruled.op in
+    let k = c.args.ruled.ruled in
+    rw c.requires (omega (arith, region_small (fits_blank k.shape) (sweep_facts op.s op.n op.lent c.in-Sweep.r c.in-Sweep.erased (rw c.in-Sweep.is at (plan_of op k).next_good)).0))
 
 pub sweep_plan-requires : goal.sweep_plan-requires
 sweep_plan-requires c =
-    let op = c.args.op in
-    let k = c.requires.0 in
+    let op = c.args.ruled.op in
+    let k = c.args.ruled.ruled in
     let (low, few) = sweep_facts op.s op.n op.lent c.in-Sweep.r c.in-Sweep.erased (rw c.in-Sweep.is at (plan_of op k).next_good) in
     (k.shape, low, few)
 
@@ -42,7 +42,7 @@ returns-in-Seek c = rw (sym c.first_of-first.ensures ∙ c.in_default.is, c.in-S
 
 pub returns-in-Sweep : goal.returns-in-Sweep
 returns-in-Sweep c =
-    let op = c.args.op in
+    let op = c.args.ruled.op in
     rw (sym c.first_of-first.ensures ∙ c.in_default.is, c.in-Sweep.is)
     (c.sweep_plan.ensures ∙ ap (λ (v : Verdict). sweep_plan op.s op.n c.in-Sweep.r c.in-Sweep.erased v) c.judge.ensures)
 

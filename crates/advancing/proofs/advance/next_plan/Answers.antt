@@ -21,7 +21,7 @@ returns-in_default-reply-2 c =
     rw other (c.refuse.ensures, refl)
 
 pub give-requires : goal.give-requires
-give-requires c = let a = c.args in rw c.advanced.ensures (advance_gives a.op a.region.now c.requires.0 c.requires.1)
+give-requires c = let a = c.args in rw c.advanced.ensures (advance_gives a.ruled.op a.region.now a.ruled.ruled c.requires)
 
 pub returns : goal.returns
 returns c =
@@ -29,4 +29,4 @@ returns c =
     let e = c.advanced.ensures in
     let done : a.reply ≡ Reply.Done = search rules in
     rw done
-    (c.give.ensures.0 ∙ ap (given a.op.n a.op.lent a.region.now) e, c.give.ensures.1 ∙ ap (λ (p : Plan). filled a.op.lent a.region.now p a.buffer.now) e)
+    (c.give.ensures.0 ∙ ap (given a.ruled.op.n a.ruled.op.lent a.region.now) e, c.give.ensures.1 ∙ ap (λ (p : Plan). filled a.ruled.op.lent a.region.now p a.buffer.now) e)

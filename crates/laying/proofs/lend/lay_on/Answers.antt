@@ -8,4 +8,4 @@ pub returns-in-NotReady : goal.returns-in-NotReady
 returns-in-NotReady c = rw c.in-NotReady.is
 
 pub returns : goal.returns
-returns c = let a = c.args in c.lay.ensures ∙ sym (laid_else a.reply a.op a.region.now a.value.now c.in_default.not-NotReady)
+returns c = let a = c.args in c.lay.ensures ∙ sym (laid_else a.reply a.ruled.op a.region.now a.value.now c.in_default.not-NotReady)

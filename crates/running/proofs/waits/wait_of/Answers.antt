@@ -14,8 +14,8 @@ returns-in-Do c = rw (c.if-op.false, sym c.first_of-first.ensures ∙ c.in-Do.is
 
 pub probe_at-requires : goal.probe_at-requires
 probe_at-requires c =
-    let op = c.args.op in
-    let next = (plan_of op c.requires).next_good in
+    let op = c.args.ruled.op in
+    let next = (plan_of op c.args.ruled.ruled).next_good in
     let e = c.in-Seek.is in
     (c.get_region.ensures.1, (seek_facts op.s op.n op.lent c.in-Seek.aim c.in-Seek.i c.in-Seek.seen (rw e at next)).1)
 
@@ -24,7 +24,7 @@ returns-in-Ends c = rw (c.if-op.false, sym c.first_of-first.ensures ∙ c.in_def
 
 pub returns-in-Seek : goal.returns-in-Seek
 returns-in-Seek c =
-    let op = c.args.op in
+    let op = c.args.ruled.op in
     let home = c.get_region.ensures.0 in
     rw (c.if-op.false, sym c.first_of-first.ensures ∙ c.in_default.is, c.in-Seek.is)
     (ap Wait.Read (c.probe_at.ensures.0 ∙ ap (λ (h : ℕ). get_or (probe op.n h) c.in-Seek.i 0) home))
