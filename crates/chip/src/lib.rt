@@ -3,11 +3,13 @@
 #![tactic(auto)]
 
 mod geometry;
+mod regions;
 
 ghost use Rattle.std.specs.Prelude.{◌≡◌, ◌+◌, ◌≤◌, length, replicate};
 ghost use Rattle.chip.specs.Chip.{written, erased, is_blank};
 
 pub use geometry::{LARGEST_SIZE, LEAST_SIZE, MOST_REGIONS, erase_region, fits, is_sized};
+pub use regions::Chip;
 
 // What an erase leaves in every byte.
 pub const BLANK: u8 = 255;
