@@ -2,7 +2,6 @@
 -- Assumes nothing.
 use Prim.Native.Nat.{ℕ, zero, suc, ◌+◌, ◌*◌, ◌/◌, ◌%◌, ◌^◌, ◌≤◌, ◌<◌, min}
 use native.Mathlib.Nat.{add-zero}
-use native.Mathlib.Numerals.{add-one}
 use native.Mathlib.Omega.{arith}
 use mathlib.Core.Path.{◌≡◌, refl, sym, ◌∙◌, ap}
 use mathlib.Core.Bool.{Bool, true, false, ◌&&◌}
@@ -10,9 +9,10 @@ use mathlib.Core.List.{List, [], ◌∷◌, ◌++◌}
 use lib.Arith.{bin_ind}
 use lib.Bits.{bit_and, and_step, and_comm, and_mask, and_block, and_zero_r, and_self}
 use lib.Dec.{eqb}
-use lib.ListN.{length, get_or, take, drop, set, length-set, drop_of_length-le}
-use lib.Seq.{sets, drop-cons, get_or-set_other}
-use borrow.Author.Tests.{eq-eqb, ne_eqb, eqb-true}
+use lib.ListN.{length, get_or, take, drop, set, length-set}
+use lib.Seq.{sets, get_or-set_other}
+use borrow.Author.Tests.{eq-eqb, eqb-true}
+use Rattle.std.specs.Prelude.{IsTrue, EachIndex, ◌↔◌}
 use Rattle.chip.specs.Chip.{Bytes, written, erased, is_blank}
 use Rattle.chip.proofs.Runs.{written_run, run_one, run_none}
 
@@ -132,14 +132,11 @@ unfolding is_blank
 blank_erased zero = refl
 blank_erased (suc n) = blank_erased n
 
-pub blank_one : (part : List ℕ) (i : ℕ) → i < length part → get_or part i 0 ≡ 255 → is_blank (drop (i + 1) part) ≡ is_blank (drop i part)
-unfolding is_blank
-blank_one part i h e = sym (rw (drop-cons part i 0 h, add-one) (rw (eq-eqb (get_or part i 0) 255 e)))
-
-pub blank_not : (part : List ℕ) (i : ℕ) → i < length part → (get_or part i 0 ≡ 255 → ⊥) → is_blank (drop i part) ≡ false
-unfolding is_blank
-blank_not part i h e = rw (drop-cons part i 0 h) (rw (ne_eqb (get_or part i 0) 255 e))
-
-pub blank_none : (part : List ℕ) (i : ℕ) → length part ≤ i → is_blank (drop i part) ≡ true
-unfolding is_blank
-blank_none part i h = rw (drop_of_length-le part h)
+-- what says that every byte is 255 exactly where that is so
+pub blank_each : (part : List ℕ) (b : Bool) → (IsTrue b ↔ EachIndex part (λ k. get_or part k 0 ≡ 255)) → b ≡ is_blank part
+blank_each part true h = sym (at_blank part (h.0 refl))
+blank_each part false h = go (is_blank part) refl
+  where
+    go : (t : Bool) → is_blank part ≡ t → false ≡ t
+    go true e = h.1 (blank_at_lem part e)
+    go false e = refl

@@ -19,11 +19,8 @@ pub fn write(image: &mut [u8], at: usize, new: &[u8])
     requires { at + length new.now ≤ length image.old }
     ensures { image.new ≡ written image.old at new.now }
 {
-    let mut i: usize = 0;
-    while i < new.len() {
-        let place = at + i;
-        image[place] = image[place] & new[i];
-        i += 1;
+    for (i, byte) in new.iter().enumerate() {
+        image[at + i] &= *byte;
     }
 }
 
@@ -31,11 +28,7 @@ pub fn write(image: &mut [u8], at: usize, new: &[u8])
 pub fn fill(part: &mut [u8], value: u8)
     ensures { part.new ≡ replicate (length part.old) value }
 {
-    let mut i: usize = 0;
-    while i < part.len() {
-        part[i] = value;
-        i += 1;
-    }
+    part.fill(value);
 }
 
 // The chip's erase of the region that is lent.
@@ -49,12 +42,5 @@ pub fn erase(region: &mut [u8])
 pub fn is_blank(part: &[u8]) -> bool
     ensures { result ≡ is_blank part.now }
 {
-    let mut i: usize = 0;
-    while i < part.len() {
-        if part[i] != BLANK {
-            return false;
-        }
-        i += 1;
-    }
-    true
+    part.iter().all(|byte| *byte == BLANK)
 }

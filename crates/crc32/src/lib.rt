@@ -36,10 +36,8 @@ fn update(table: &[u32; 256], crc: u32, bytes: &[u8]) -> u32
     ensures { result ≡ run crc bytes.now }
 {
     let mut state = crc;
-    let mut i = 0;
-    while i < bytes.len() {
-        state = step(table, state, bytes[i]);
-        i += 1;
+    for byte in bytes {
+        state = step(table, state, *byte);
     }
     state
 }

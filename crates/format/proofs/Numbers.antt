@@ -1,7 +1,7 @@
 -- Numbers as bytes, the highest first and the lowest first.
 -- Assumes nothing.
 use Prim.Native.Nat.{ℕ, zero, suc, ◌+◌, ◌*◌, ◌/◌, ◌%◌, ◌^◌, ◌≤◌, ◌<◌}
-use native.Mathlib.Nat.{pow-le-pow_right, zero-add, add-zero}
+use native.Mathlib.Nat.{zero-add, add-zero}
 use native.Mathlib.Omega.{arith}
 use mathlib.Core.Path.{◌≡◌, refl, sym, ◌∙◌}
 use mathlib.Core.List.{List, [], ◌∷◌, ◌++◌}
@@ -10,13 +10,6 @@ use lib.Seq.{get_or_at, get_or-drop, take-suc}
 use Rattle.chip.specs.Chip.{Bytes}
 use Rattle.chip.proofs.Laws.{bytes_cons, bytes_append}
 use Rattle.format.specs.Layout.{big_endian, little_endian, big_endian_at, sum_at}
-
--- a number of fewer than 8 bytes has room for one more in 64 bits
-pub big_room : (n i : ℕ) → n < 256 ^ i → i < 8 → n * 256 + 255 < 2 ^ 64
-big_room n i h l =
-    let m : i ≤ 7 = omega arith in
-    let g : 256 ^ i ≤ 256 ^ 7 = pow-le-pow_right {n = 256} (omega arith) m in
-    omega arith
 
 -- k bytes say the same number in another list that has the same bytes there
 pub big_same : (r' r : List ℕ) (p' p k : ℕ) → ((i : ℕ) → i < k → get_or r' (p' + i) 0 ≡ get_or r (p + i) 0) → big_endian_at k r' p' ≡ big_endian_at k r p

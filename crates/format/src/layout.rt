@@ -9,19 +9,10 @@ fn header_of(version: u8, flags: u8, len: usize, key: u64) -> [u8; 11]
     requires { (flags ≤ 15) × (len ≤ 4095) }
     ensures { result ≡ header version flags len key }
 {
-    [
-        version,
-        flags * 16 + (len / 256) as u8,
-        (len % 256) as u8,
-        (key / 0x100_0000_0000_0000) as u8,
-        (key / 0x1_0000_0000_0000 % 256) as u8,
-        (key / 0x100_0000_0000 % 256) as u8,
-        (key / 0x1_0000_0000 % 256) as u8,
-        (key / 0x100_0000 % 256) as u8,
-        (key / 0x1_0000 % 256) as u8,
-        (key / 0x100 % 256) as u8,
-        (key % 256) as u8,
-    ]
+    let [a, b, c, d, e, f, g, h] = key.to_be_bytes();
+    let high = (len / 256) as u8;
+    let low = (len % 256) as u8;
+    [version, flags * 16 + high, low, a, b, c, d, e, f, g, h]
 }
 
 // The header of a live record that is written now.
@@ -33,15 +24,11 @@ pub fn new_header(len: usize, key: u64) -> [u8; 11]
 }
 
 // A checksum's four bytes, low end first.
+#[tactic(auto, using(crate::proofs::Laid::little_four))]
 pub fn sum_bytes(sum: u32) -> [u8; 4]
     ensures { result ≡ little_endian 4 sum }
 {
-    [
-        (sum % 256) as u8,
-        (sum / 0x100 % 256) as u8,
-        (sum / 0x1_0000 % 256) as u8,
-        (sum / 0x100_0000) as u8,
-    ]
+    sum.to_le_bytes()
 }
 
 // A record's header with the top flag cleared.
@@ -66,8 +53,5 @@ fn sum_at(bytes: &[u8], at: usize) -> u32
     requires { at + 4 ≤ length bytes.now }
     ensures { result ≡ sum_at bytes.now at }
 {
-    bytes[at] as u32
-        + bytes[at + 1] as u32 * 0x100
-        + bytes[at + 2] as u32 * 0x1_0000
-        + bytes[at + 3] as u32 * 0x100_0000
+    u32::from_le_bytes([bytes[at], bytes[at + 1], bytes[at + 2], bytes[at + 3]])
 }

@@ -14,11 +14,8 @@ pub fn lay(region: &mut [u8], at: usize, new: &[u8])
     requires { at + length new.now ≤ length region.old }
     ensures { region.new ≡ sets region.old at new.now }
 {
-    let mut i: usize = 0;
-    while i < new.len() {
-        let place = at + i;
-        region[place] = new[i];
-        i += 1;
+    for (i, byte) in new.iter().enumerate() {
+        region[at + i] = *byte;
     }
 }
 

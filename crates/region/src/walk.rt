@@ -14,17 +14,22 @@ fn length_at(region: &[u8], at: usize) -> usize
 }
 
 // The key of the header at a place, big-endian.
+#[tactic(auto, using(format::proofs::Laid::eight_says))]
 fn key_at(region: &[u8], at: usize) -> u64
     requires { at + 11 ≤ length region.now }
     ensures { result ≡ key_at region.now at }
 {
-    let mut key: u64 = 0;
-    let mut i: usize = 0;
-    while i < 8 {
-        key = key * 256 + region[at + Record::KEY_OFFSET + i] as u64;
-        i += 1;
-    }
-    key
+    let k = at + Record::KEY_OFFSET;
+    u64::from_be_bytes([
+        region[k],
+        region[k + 1],
+        region[k + 2],
+        region[k + 3],
+        region[k + 4],
+        region[k + 5],
+        region[k + 6],
+        region[k + 7],
+    ])
 }
 
 // What stands at a place: the first of R4.2 to R4.6 that applies.
