@@ -3,7 +3,7 @@ ghost use Rattle.std.specs.Prelude.{◌≡◌, ◌≤◌, length};
 
 use crate::{flash, print};
 use format::Record;
-use region::{Met, Stop};
+use region::Stop;
 
 pub fn show(image: &[u8])
     requires { length image.now ≡ 512 }
@@ -22,13 +22,12 @@ pub fn show(image: &[u8])
 fn rows(r: usize, region: &[u8]) {
     let mut at: usize = 0;
     loop {
-        let met = region::look(region, at);
-        match met {
-            Met::Found(rec) => {
+        match region::look(region, at) {
+            Ok(rec) => {
                 record_row(r, rec);
                 at += rec.len;
             }
-            Met::Stop(stop) => {
+            Err(stop) => {
                 let e = region.len();
                 stop_row(r, stop, &region[at..e]);
                 return;

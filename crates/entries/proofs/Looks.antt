@@ -11,7 +11,8 @@ use Rattle.chip.specs.Geometry.{geometry, region_of, Fits}
 use Rattle.chip.proofs.Image.{fits_geometry, region-length, region_small}
 use Rattle.format.specs.declared.Record.{Record}
 use Rattle.format.specs.Layout.{check_sum_fits}
-use Rattle.region.specs.declared.Met.{Met}
+use Rattle.std.specs.Prelude.{Result, Ok, Err}
+use Rattle.region.specs.declared.Stop.{Stop}
 use Rattle.region.specs.declared.Stop.TheVariants.{End, Bad}
 use Rattle.region.specs.Walk.{met_at, bytes_in}
 use Rattle.region.proofs.Steps.{found_fits, found_at, end_short}
@@ -24,13 +25,13 @@ use Rattle.entries.specs.Entries.{entry_of, entry_in, entry_at, staying, shown_a
 pub past_ends : (region : List ℕ) (o : ℕ) → length region < o → Entry.Ends ≡ entry_in region o
 past_ends region o h = ap (entry_of region) (sym (end_short region o (omega arith)))
 
-pub met_is : (region : List ℕ) (o : ℕ) (m met : Met) → met ≡ met_at region o → met ≡ m → entry_of region m ≡ entry_in region o
+pub met_is : (region : List ℕ) (o : ℕ) (m met : Result Record Stop) → met ≡ met_at region o → met ≡ m → entry_of region m ≡ entry_in region o
 met_is region o m met e g = ap (entry_of region) (sym g ∙ e)
 
 -- a record that is met lies in the region
-pub met_lies : (region : List ℕ) (o : ℕ) (x : Record) (met : Met) → met ≡ met_at region o → met ≡ Met.Found x → (15 ≤ x.len) × (x.at + x.len ≤ length region)
+pub met_lies : (region : List ℕ) (o : ℕ) (x : Record) (met : Result Record Stop) → met ≡ met_at region o → met ≡ Ok x → (15 ≤ x.len) × (x.at + x.len ≤ length region)
 met_lies region o x met e g =
-    let q : met_at region o ≡ Met.Found x = sym e ∙ g in
+    let q : met_at region o ≡ Ok x = sym e ∙ g in
     let f = found_fits region o x q in
     let a : o ≡ x.at = found_at region o x q in
     (f.0, omega (arith, f.1, a))
@@ -52,7 +53,7 @@ in_region_lem image s n r o g h = rw (g, lt-ltb r n h)
 
 -- What a record that stands at a place says of the place.
 pub record Stood (region : List ℕ) (o : ℕ) (x : Record) (sound : Bool) : Type 0 where
-  pub met : met_at region o ≡ Met.Found x
+  pub met : met_at region o ≡ Ok x
   pub sum : check_sum_fits (bytes_in region x) ≡ sound
   pub least : 15 ≤ x.len
   pub inside : o + x.len ≤ length region
@@ -61,19 +62,19 @@ pub record Stood (region : List ℕ) (o : ℕ) (x : Record) (sound : Bool) : Typ
 pub stood : (region : List ℕ) (o : ℕ) (x : Record) (sound : Bool) → entry_in region o ≡ Entry.Stands x sound → Stood region o x sound
 stood region o x sound h = go (met_at region o) refl h
   where
-    is : (y : Record) → met_at region o ≡ Met.Found y → y ≡ x → check_sum_fits (bytes_in region y) ≡ sound → Stood region o x sound
+    is : (y : Record) → met_at region o ≡ Ok y → y ≡ x → check_sum_fits (bytes_in region y) ≡ sound → Stood region o x sound
     is y e p q =
-        let m : met_at region o ≡ Met.Found x = e ∙ ap Met.Found p in
+        let m : met_at region o ≡ Ok x = e ∙ ap Ok p in
         let f = found_fits region o x m in
         record { met = m; sum = sym (ap (λ (z : Record). check_sum_fits (bytes_in region z)) p) ∙ q; least = f.0; inside = f.1; place = found_at region o x m }
 
-    go : (m : Met) → met_at region o ≡ m → entry_of region m ≡ Entry.Stands x sound → Stood region o x sound
-    go (Met.Found y) e q =
+    go : (m : Result Record Stop) → met_at region o ≡ m → entry_of region m ≡ Entry.Stands x sound → Stood region o x sound
+    go (Ok y) e q =
         let p : y ≡ x = cc in
         let b : check_sum_fits (bytes_in region y) ≡ sound = cc in
         is y e p b
-    go (Met.Stop (End p)) e q = absurd (let z : ◌≡◌ {A = ℕ} 0 1 = cc in omega arith)
-    go (Met.Stop (Bad f p)) e q = absurd (let z : ◌≡◌ {A = ℕ} 0 1 = cc in omega arith)
+    go (Err (End p)) e q = absurd (let z : ◌≡◌ {A = ℕ} 0 1 = cc in omega arith)
+    go (Err (Bad f p)) e q = absurd (let z : ◌≡◌ {A = ℕ} 0 1 = cc in omega arith)
 
 module _ {image : List ℕ} {s n : ℕ} (f : Fits image s n) where
   pub regions_few : n ≤ 65536

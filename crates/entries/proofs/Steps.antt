@@ -12,7 +12,8 @@ use Rattle.chip.specs.Geometry.{geometry, region_of, numbers, Fits}
 use Rattle.chip.proofs.Image.{geometry_fits, fits_geometry, region-length}
 use Rattle.format.specs.declared.Record.{Record}
 use Rattle.format.specs.declared.Fault.{Fault}
-use Rattle.region.specs.declared.Met.{Met}
+use Rattle.std.specs.Prelude.{Result, Ok, Err}
+use Rattle.region.specs.declared.Stop.{Stop}
 use Rattle.region.specs.declared.Stop.TheVariants.{End, Bad}
 use Rattle.region.specs.Walk.{View, stopped, met_at, walk_from}
 use Rattle.region.proofs.Steps.{walk_stop, walk_found, stop_place}
@@ -41,18 +42,18 @@ onward_found r region o x sound rest t = ap (λ (v : View). onward r region v re
 ended : (region : List ℕ) (o : ℕ) → entry_in region o ≡ Entry.Ends → walk_from region o ≡ stopped (End o)
 ended region o h = go (met_at region o) refl h
   where
-    go : (m : Met) → met_at region o ≡ m → entry_of region m ≡ Entry.Ends → walk_from region o ≡ stopped (End o)
-    go (Met.Found y) e q = absurd (let z : ◌≡◌ {A = ℕ} 0 1 = cc in omega arith)
-    go (Met.Stop (End p)) e q = walk_stop region o (End p) e ∙ ap (λ k. stopped (End k)) (sym (stop_place _ _ _ e))
-    go (Met.Stop (Bad f p)) e q = absurd (let z : ◌≡◌ {A = ℕ} 0 1 = cc in omega arith)
+    go : (m : Result Record Stop) → met_at region o ≡ m → entry_of region m ≡ Entry.Ends → walk_from region o ≡ stopped (End o)
+    go (Ok y) e q = absurd (let z : ◌≡◌ {A = ℕ} 0 1 = cc in omega arith)
+    go (Err (End p)) e q = walk_stop region o (End p) e ∙ ap (λ k. stopped (End k)) (sym (stop_place _ _ _ e))
+    go (Err (Bad f p)) e q = absurd (let z : ◌≡◌ {A = ℕ} 0 1 = cc in omega arith)
 
 badly : (region : List ℕ) (o : ℕ) (f : Fault) → entry_in region o ≡ Entry.Bad f → walk_from region o ≡ stopped (Bad f o)
 badly region o f h = go (met_at region o) refl h
   where
-    go : (m : Met) → met_at region o ≡ m → entry_of region m ≡ Entry.Bad f → walk_from region o ≡ stopped (Bad f o)
-    go (Met.Found y) e q = absurd (let z : ◌≡◌ {A = ℕ} 0 1 = cc in omega arith)
-    go (Met.Stop (End p)) e q = absurd (let z : ◌≡◌ {A = ℕ} 0 1 = cc in omega arith)
-    go (Met.Stop (Bad g p)) e q =
+    go : (m : Result Record Stop) → met_at region o ≡ m → entry_of region m ≡ Entry.Bad f → walk_from region o ≡ stopped (Bad f o)
+    go (Ok y) e q = absurd (let z : ◌≡◌ {A = ℕ} 0 1 = cc in omega arith)
+    go (Err (End p)) e q = absurd (let z : ◌≡◌ {A = ℕ} 0 1 = cc in omega arith)
+    go (Err (Bad g p)) e q =
         let d : g ≡ f = cc in
         walk_stop region o (Bad g p) e ∙ (λ i. stopped (Bad (d i) (sym (stop_place _ _ _ e) i)))
 
@@ -60,18 +61,18 @@ badly region o f h = go (met_at region o) refl h
 not_over : (region : List ℕ) (o : ℕ) → entry_in region o ≡ Entry.Over → ⊥
 not_over region o h = go (met_at region o) h
   where
-    go : (m : Met) → entry_of region m ≡ Entry.Over → ⊥
-    go (Met.Found y) q = let z : ◌≡◌ {A = ℕ} 0 1 = cc in omega arith
-    go (Met.Stop (End p)) q = let z : ◌≡◌ {A = ℕ} 0 1 = cc in omega arith
-    go (Met.Stop (Bad g p)) q = let z : ◌≡◌ {A = ℕ} 0 1 = cc in omega arith
+    go : (m : Result Record Stop) → entry_of region m ≡ Entry.Over → ⊥
+    go (Ok y) q = let z : ◌≡◌ {A = ℕ} 0 1 = cc in omega arith
+    go (Err (End p)) q = let z : ◌≡◌ {A = ℕ} 0 1 = cc in omega arith
+    go (Err (Bad g p)) q = let z : ◌≡◌ {A = ℕ} 0 1 = cc in omega arith
 
 refuses_not : (region : List ℕ) (o : ℕ) (w : Refusal) → entry_in region o ≡ Entry.Refused w → ⊥
 refuses_not region o w h = go (met_at region o) h
   where
-    go : (m : Met) → entry_of region m ≡ Entry.Refused w → ⊥
-    go (Met.Found y) q = let z : ◌≡◌ {A = ℕ} 0 1 = cc in omega arith
-    go (Met.Stop (End p)) q = let z : ◌≡◌ {A = ℕ} 0 1 = cc in omega arith
-    go (Met.Stop (Bad g p)) q = let z : ◌≡◌ {A = ℕ} 0 1 = cc in omega arith
+    go : (m : Result Record Stop) → entry_of region m ≡ Entry.Refused w → ⊥
+    go (Ok y) q = let z : ◌≡◌ {A = ℕ} 0 1 = cc in omega arith
+    go (Err (End p)) q = let z : ◌≡◌ {A = ℕ} 0 1 = cc in omega arith
+    go (Err (Bad g p)) q = let z : ◌≡◌ {A = ℕ} 0 1 = cc in omega arith
 
 -- where a record stands the image is a chip's
 pub stands_chip : (image : List ℕ) (s n r o : ℕ) (x : Record) (sound : Bool) → entry_at image s n r o ≡ Entry.Stands x sound → Fits image s n

@@ -1,9 +1,9 @@
 -- What stands at a place of a chip, for any image, S, N, region and place, and where to go on.
-use Rattle.std.specs.Prelude.{ℕ, ◌+◌, Bool, cond, List, ltb}
+use Rattle.std.specs.Prelude.{ℕ, ◌+◌, Bool, cond, List, Result, Ok, Err, ltb}
 use Rattle.chip.specs.Geometry.{geometry, region_of}
 use Rattle.format.specs.declared.Record.{Record}
 use Rattle.format.specs.Layout.{check_sum_fits}
-use Rattle.region.specs.declared.Met.{Met}
+use Rattle.region.specs.declared.Stop.{Stop}
 use Rattle.region.specs.declared.Stop.TheVariants.{End, Bad}
 use Rattle.region.specs.Walk.{met_at, bytes_in}
 use Rattle.refusals.specs.declared.Refusal.{Refusal}
@@ -15,10 +15,10 @@ abbrev pub sound_in : List ℕ → Record → Bool
 sound_in region x = check_sum_fits (bytes_in region x)
 
 -- R16.4: by what a walk of the region meets there: a record, and whether its checksum is right; that the walk ends; or why the place is bad
-abbrev pub entry_of : List ℕ → Met → Entry
-entry_of region (Met.Found x) = Entry.Stands x (sound_in region x)
-entry_of region (Met.Stop (End o)) = Entry.Ends
-entry_of region (Met.Stop (Bad f o)) = Entry.Bad f
+abbrev pub entry_of : List ℕ → Result Record Stop → Entry
+entry_of region (Ok x) = Entry.Stands x (sound_in region x)
+entry_of region (Err (End o)) = Entry.Ends
+entry_of region (Err (Bad f o)) = Entry.Bad f
 
 -- R16.4: what stands at a place of a region.
 abbrev pub entry_in : List ℕ → ℕ → Entry

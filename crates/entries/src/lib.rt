@@ -7,7 +7,7 @@ ghost use Rattle.entries.specs.Entries.{sound_in, entry_in, staying, going_on, s
 
 use format::{Fault, Record};
 use refusals::Refusal;
-use region::{Met, Stop};
+use region::Stop;
 
 // R16.4: a place of a chip: a region, and a place in it. C and Rust see it as it is.
 #[repr(C)]
@@ -56,16 +56,13 @@ fn look_in(region: &[u8], at: usize) -> Entry
     if region.len() < at {
         return Entry::Ends;
     }
-    let met = region::look(region, at);
-    match met {
-        Met::Stop(stop) => match stop {
-            Stop::End(_) => Entry::Ends,
-            Stop::Bad(fault, _) => Entry::Bad(fault),
-        },
-        Met::Found(rec) => Entry::Stands {
+    match region::look(region, at) {
+        Ok(rec) => Entry::Stands {
             rec,
             sound: is_sound(region, rec),
         },
+        Err(Stop::End(_)) => Entry::Ends,
+        Err(Stop::Bad(fault, _)) => Entry::Bad(fault),
     }
 }
 

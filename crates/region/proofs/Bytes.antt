@@ -8,14 +8,14 @@ use mathlib.Core.List.{List, [], ◌∷◌, ◌++◌, append_assoc}
 use lib.ListN.{length, get_or, take, drop, length-append}
 use lib.Seq.{get_or-append-add, take_all, take_at, drop_at}
 use Rattle.crc32.specs.Crc.{checksum}
-use Rattle.region.specs.declared.Met.{Met}
+use Rattle.std.specs.Prelude.{Ok}
 use Rattle.format.specs.Layout.{edition, big_endian, little_endian, header, record_length, header_and_value, record_bytes}
 use Rattle.region.specs.Walk.{length_at, flags_at, key_at, met_at, value_in, record_of}
 use Rattle.format.proofs.Numbers.{big_same, big_says, length_little}
 use Rattle.format.proofs.Bytes.{in_header, length-header, length_summed, length_record}
 use Rattle.region.proofs.Steps.{is_found}
 
-pub record_says : (key : ℕ) (value : List ℕ) → key < 2 ^ 64 → length value ≤ 4079 → met_at (record_bytes key value) 0 ≡ Met.Found (record_of 0 key value)
+pub record_says : (key : ℕ) (value : List ℕ) → key < 2 ^ 64 → length value ≤ 4079 → met_at (record_bytes key value) 0 ≡ Ok (record_of 0 key value)
 record_says key value h l =
     let b = record_bytes key value in
     let n = record_length (length value) in

@@ -15,7 +15,7 @@ use Rattle.chip.proofs.Lists.{every_join, byte_after, sets-before, sets-after, s
 use Rattle.chip.proofs.Laws.{blank_at_lem, at_blank}
 use Rattle.format.specs.declared.Record.{Record}
 use Rattle.region.specs.declared.Stop.TheVariants.{End}
-use Rattle.region.specs.declared.Met.{Met}
+use Rattle.std.specs.Prelude.{Ok, Err}
 use Rattle.region.specs.Walk.{length_at, flags_at, key_at, record_at, met_at, stopped, walk_from, records, ending, dead}
 use Rattle.format.proofs.Numbers.{big_same}
 use Rattle.region.proofs.Steps.{Stands, stands_is, found, is_found, found_fits, walk_stop, place_of}
@@ -27,7 +27,7 @@ use Rattle.region.proofs.Same.{moved, record_same, met_after, reach_before, reac
 pub walk_blank : (r : List ℕ) (o : ℕ) → is_blank (drop o r) ≡ true → walk_from r o ≡ stopped (End o)
 walk_blank r o h = walk_stop r o (End o) (go (ltb (length r - o) 15) refl)
   where
-    go : (b : Bool) → ltb (length r - o) 15 ≡ b → met_at r o ≡ Met.Stop (End o)
+    go : (b : Bool) → ltb (length r - o) 15 ≡ b → met_at r o ≡ Err (End o)
     go true e = stands_is _ _ _ (Stands.short (ltb-true _ _ e))
     go false e =
         let l : 15 ≤ length r - o = ltb-false _ _ e in
@@ -36,8 +36,8 @@ walk_blank r o h = walk_stop r o (End o) (go (ltb (length r - o) 15) refl)
 
 -- A record's bytes, laid down at the end of a region whose tail is blank, are one record more.
 
-module _ (r b : List ℕ) (p : ℕ) (x : Record) (fits : p + length b ≤ length r) (says : met_at b 0 ≡ Met.Found x) (size : x.len ≡ length b) where
-  met_laid : met_at (sets r p b) p ≡ Met.Found (moved p x)
+module _ (r b : List ℕ) (p : ℕ) (x : Record) (fits : p + length b ≤ length r) (says : met_at b 0 ≡ Ok x) (size : x.len ≡ length b) where
+  met_laid : met_at (sets r p b) p ≡ Ok (moved p x)
   met_laid =
       let s = found (length b - 0) (record_at b 0) x says in
       let m = length-sets r p b in
@@ -83,7 +83,7 @@ pub record Buried (r' r : List ℕ) (x : Record) : Type 0 where
 pub flag_gone : (b : ℕ) → b % 128 / 16 ≡ b / 16 % 8
 flag_gone b = let q : b / 16 ≡ b / 128 * 8 + b % 128 / 16 = omega arith in omega arith
 
-met_buried : (r' r : List ℕ) (x : Record) → Buried r' r x → met_at r x.at ≡ Met.Found x → met_at r' x.at ≡ Met.Found (dead x)
+met_buried : (r' r : List ℕ) (x : Record) → Buried r' r x → met_at r x.at ≡ Ok x → met_at r' x.at ≡ Ok (dead x)
 met_buried r' r x u q =
     let o = x.at in
     let s = found (length r - o) (record_at r o) x q in

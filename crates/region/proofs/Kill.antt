@@ -17,7 +17,7 @@ use Rattle.chip.proofs.Laws.{written_stores, and_clear}
 use Rattle.chip.proofs.Theorems.{clears_flag}
 use Rattle.format.specs.declared.Record.{Record}
 use Rattle.format.specs.declared.Removal.{Removal}
-use Rattle.region.specs.declared.Met.{Met}
+use Rattle.std.specs.Prelude.{Ok}
 use Rattle.format.specs.Layout.{dead_header, kill_bytes, kill_place}
 use Rattle.region.specs.Walk.{record_at, met_at}
 use Rattle.format.proofs.Numbers.{big_back}
@@ -54,7 +54,7 @@ flag_back b c =
     let low : b % 128 ≡ b % 128 / 16 * 16 + b % 16 = omega arith in
     omega (arith, flag_gone b)
 
-module _ (r : List ℕ) (x : Record) (bytes : Bytes r) (stands : met_at r x.at ≡ Met.Found x) where
+module _ (r : List ℕ) (x : Record) (bytes : Bytes r) (stands : met_at r x.at ≡ Ok x) where
   header_is : dead_header x ≡ set (take 11 (drop x.at r)) 1 (dead_byte r x.at)
   header_is =
       let o = x.at in
@@ -145,7 +145,7 @@ module _ (r : List ℕ) (x : Record) (least : 15 ≤ x.len) (fits : x.at + x.len
         rest = λ k l m. sets_at r o z f k (omega arith) ∙ zero_head r o x.len least fits k l m;
       })
 
-module _ (how : Removal) (r : List ℕ) (x : Record) (bytes : Bytes r) (stands : met_at r x.at ≡ Met.Found x) where
+module _ (how : Removal) (r : List ℕ) (x : Record) (bytes : Bytes r) (stands : met_at r x.at ≡ Ok x) where
   -- over the record that stands there the write stores its bytes
   pub kill_stores : written r (kill_place how x) (kill_bytes how x) ≡ sets r (kill_place how x) (kill_bytes how x)
   kill_stores =

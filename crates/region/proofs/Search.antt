@@ -9,7 +9,7 @@ use Rattle.chip.proofs.Lists.{Every}
 use Rattle.format.specs.declared.Record.{Record}
 use Rattle.region.specs.declared.Stop.{Stop}
 use Rattle.region.specs.declared.Stop.TheVariants.{End, Bad}
-use Rattle.region.specs.declared.Met.{Met}
+use Rattle.std.specs.Prelude.{Ok, Err}
 use Rattle.region.specs.declared.Event.{Event}
 use Rattle.region.specs.Walk.{met_at, walk_from, event_of, first_of}
 pub use Rattle.region.specs.Words.{None, First}
@@ -19,11 +19,11 @@ use Rattle.region.proofs.Steps.{walk_stop, walk_found}
 abbrev pub first_from : (Record → Bool) → List ℕ → ℕ → Event
 first_from test r o = first_of test (walk_from r o).recs (walk_from r o).stop
 
-pub first_stop : (test : Record → Bool) (r : List ℕ) (o : ℕ) (s : Stop) → met_at r o ≡ Met.Stop s → first_from test r o ≡ event_of s
+pub first_stop : (test : Record → Bool) (r : List ℕ) (o : ℕ) (s : Stop) → met_at r o ≡ Err s → first_from test r o ≡ event_of s
 unfolding first_of
 first_stop test r o s h = rw (walk_stop r o s h)
 
-pub first_found : (test : Record → Bool) (r : List ℕ) (o : ℕ) (x : Record) (b : Bool) → met_at r o ≡ Met.Found x → test x ≡ b
+pub first_found : (test : Record → Bool) (r : List ℕ) (o : ℕ) (x : Record) (b : Bool) → met_at r o ≡ Ok x → test x ≡ b
     → first_from test r o ≡ cond b (Event.Live x) (first_from test r (o + x.len))
 unfolding first_of
 first_found test r o x b h e = rw (walk_found r o x h, e)

@@ -20,7 +20,7 @@ use Rattle.chip.proofs.Theorems.{over_blank}
 use Rattle.format.specs.declared.Record.{Record}
 use Rattle.region.specs.declared.Stop.{Stop}
 use Rattle.region.specs.declared.Stop.TheVariants.{End}
-use Rattle.region.specs.declared.Met.{Met}
+use Rattle.std.specs.Prelude.{Ok}
 use Rattle.region.specs.declared.Want.{Want}
 use Rattle.region.specs.declared.Event.{Event}
 use Rattle.format.specs.declared.Removal.{Removal}
@@ -94,7 +94,7 @@ stops_behind r a x b e = reach_le (split_records r a x b e).from
 -- R3.1, R3.6: the bytes of a record read back to its key, length and value, and its checksum is right.
 pub reads_back : (key : ℕ) (value : List ℕ) → key < 2 ^ 64 → length value ≤ 4079
     → (length (record_bytes key value) ≡ record_length (length value))
-    × (met_at (record_bytes key value) 0 ≡ Met.Found (record_of 0 key value))
+    × (met_at (record_bytes key value) 0 ≡ Ok (record_of 0 key value))
     × (value_in (record_bytes key value) (record_of 0 key value) ≡ value)
     × (check_sum_fits (record_bytes key value) ≡ true)
 reads_back key value h l = (length_record key value, record_says key value h l, value_says key value, sum_says key value (checksum_fits (header_and_value key value)))

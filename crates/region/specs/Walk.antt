@@ -1,11 +1,10 @@
 -- A walk of one region, for any list of bytes: what stands at a place, the records in order and how and where they stop, and what decides a search.
-use Rattle.std.specs.Prelude.{ℕ, zero, suc, ◌+◌, ◌-◌, ◌*◌, ◌/◌, ◌%◌, Bool, not, ◌&&◌, ◌||◌, cond, List, [], ◌∷◌, ltb, eqb, length, get_or, take, drop}
+use Rattle.std.specs.Prelude.{ℕ, zero, suc, ◌+◌, ◌-◌, ◌*◌, ◌/◌, ◌%◌, Bool, not, ◌&&◌, ◌||◌, cond, Result, Ok, Err, List, [], ◌∷◌, ltb, eqb, length, get_or, take, drop}
 use Rattle.format.specs.Layout.{edition, header_length, least_length, record_length, big_endian_at, live}
 use Rattle.format.specs.declared.Record.{Record}
 use Rattle.format.specs.declared.Fault.TheVariants.{UnsupportedVersion, CorruptData}
 use Rattle.region.specs.declared.Stop.{Stop}
 use Rattle.region.specs.declared.Stop.TheVariants.{End, Bad}
-use Rattle.region.specs.declared.Met.{Met}
 use Rattle.region.specs.declared.Want.{Want}
 use Rattle.region.specs.declared.Event.{Event}
 
@@ -31,16 +30,16 @@ record_at region o = record { at = o; len = length_at region o; version = get_or
 -- R4.4: the first byte is not 1: the place is bad, UnsupportedVersion.
 -- R4.5: the length is below 15, or more than the bytes that are left: the place is bad, CorruptData.
 -- R4.6: otherwise a record stands there.
-unfoldable pub met_of : ℕ → Record → Met
+unfoldable pub met_of : ℕ → Record → Result Record Stop
 met_of left x =
-    cond (ltb left (least_length edition)) (Met.Stop (End x.at))
-    (cond (eqb x.version 255) (Met.Stop (End x.at))
-    (cond (not (eqb x.version edition)) (Met.Stop (Bad UnsupportedVersion x.at))
-    (cond (ltb x.len (least_length x.version) || ltb left x.len) (Met.Stop (Bad CorruptData x.at))
-    (Met.Found x))))
+    cond (ltb left (least_length edition)) (Err (End x.at))
+    (cond (eqb x.version 255) (Err (End x.at))
+    (cond (not (eqb x.version edition)) (Err (Bad UnsupportedVersion x.at))
+    (cond (ltb x.len (least_length x.version) || ltb left x.len) (Err (Bad CorruptData x.at))
+    (Ok x))))
 
 -- R4.1: what a walk meets at a place o.
-abbrev pub met_at : List ℕ → ℕ → Met
+abbrev pub met_at : List ℕ → ℕ → Result Record Stop
 met_at region o = met_of (length region - o) (record_at region o)
 
 -- R4.7: a region's view: the records that a walk met, in their order, and how and where it stopped.
@@ -59,7 +58,7 @@ passed x v = record { recs = x ∷ v.recs; stop = v.stop }
 -- R4.6: the walk goes on at o plus the record's length. The walk from o on, in so many steps at most.
 unfoldable pub walk_in : ℕ → List ℕ → ℕ → View
 walk_in zero region o = stopped (End o)
-walk_in (suc n) region o = elim (met_at region o) [ Met.Found x ↦ passed x (walk_in n region (o + x.len)) | Met.Stop s ↦ stopped s ]
+walk_in (suc n) region o = elim (met_at region o) [ Ok x ↦ passed x (walk_in n region (o + x.len)) | Err s ↦ stopped s ]
 
 -- R4.6: every walk ends: each record has 15 bytes or more, so the bytes left are steps enough. The walk from o on.
 unfoldable pub walk_from : List ℕ → ℕ → View

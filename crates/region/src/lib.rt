@@ -19,25 +19,6 @@ pub enum Stop {
     Bad(Fault, usize),
 }
 
-impl Stop {
-    // A walk that stops before it met what it looks for.
-    pub fn event(self) -> Event
-        ensures { result ≡ event_of self }
-    {
-        match self {
-            Stop::End(at) => Event::End(at),
-            Stop::Bad(fault, at) => Event::Bad(fault, at),
-        }
-    }
-}
-
-// R4.1: what a walk meets at one place of a region: a record (R4.6), or where it stops (R4.2 to R4.5).
-#[derive(Clone, Copy)]
-pub enum Met {
-    Found(Record),
-    Stop(Stop),
-}
-
 // R4.8: what is looked for: a live record of the key, or any live record.
 #[derive(Clone, Copy)]
 pub enum Want {
@@ -62,4 +43,16 @@ pub enum Event {
     Live(Record),
     Bad(Fault, usize),
     End(usize),
+}
+
+// A walk that stops before it met what it looks for.
+impl From<Stop> for Event {
+    ghost from_gives = { λ stop event. event ≡ event_of stop };
+
+    fn from(stop: Stop) -> Event {
+        match stop {
+            Stop::End(at) => Event::End(at),
+            Stop::Bad(fault, at) => Event::Bad(fault, at),
+        }
+    }
 }

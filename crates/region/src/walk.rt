@@ -2,7 +2,7 @@
 ghost use Rattle.std.specs.Prelude.{◌≡◌, ◌+◌, ◌≤◌, ◌<◌, length};
 ghost use Rattle.region.specs.Walk.{length_at, key_at, met_at, event_in};
 
-use crate::{Event, Met, Stop, Want};
+use crate::{Event, Stop, Want};
 use format::{Fault, Record};
 
 // The 12 bits of length of the header at a place.
@@ -32,32 +32,32 @@ fn key_at(region: &[u8], at: usize) -> u64
     ])
 }
 
-// What stands at a place: the first of R4.2 to R4.6 that applies.
-pub fn look(region: &[u8], at: usize) -> Met
+// R4.1: what a walk meets at a place: a record (R4.6), or where it stops (R4.2 to R4.5), the first of these that applies.
+pub fn look(region: &[u8], at: usize) -> Result<Record, Stop>
     requires { at ≤ length region.now }
     ensures { result ≡ met_at region.now at }
 {
     let left = region.len() - at;
     if left < Record::LEAST {
-        return Met::Stop(Stop::End(at));
+        return Err(Stop::End(at));
     }
     let version = region[at];
     if version == chip::BLANK {
-        return Met::Stop(Stop::End(at));
+        return Err(Stop::End(at));
     }
     if version != Record::VERSION {
-        return Met::Stop(Stop::Bad(Fault::UnsupportedVersion, at));
+        return Err(Stop::Bad(Fault::UnsupportedVersion, at));
     }
     let len = length_at(region, at);
     if len < Record::LEAST {
-        return Met::Stop(Stop::Bad(Fault::CorruptData, at));
+        return Err(Stop::Bad(Fault::CorruptData, at));
     }
     if left < len {
-        return Met::Stop(Stop::Bad(Fault::CorruptData, at));
+        return Err(Stop::Bad(Fault::CorruptData, at));
     }
     let flags = region[at + Record::LEN_OFFSET] / 16;
     let key = key_at(region, at);
-    Met::Found(Record {
+    Ok(Record {
         at,
         len,
         version,
@@ -72,10 +72,9 @@ pub fn find(region: &[u8], want: Want) -> Event
 {
     let mut at: usize = 0;
     loop {
-        let met = look(region, at);
-        match met {
-            Met::Stop(stop) => break stop.event(),
-            Met::Found(rec) => {
+        match look(region, at) {
+            Err(stop) => break Event::from(stop),
+            Ok(rec) => {
                 if want.by(rec) {
                     break Event::Live(rec);
                 }

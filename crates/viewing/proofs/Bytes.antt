@@ -9,7 +9,7 @@ use lib.ListN.{length, get_or, take, drop}
 use lib.Seq.{get_or-take, get_or-drop}
 use Rattle.format.specs.declared.Record.{Record}
 use Rattle.format.specs.Layout.{check_sum_fits}
-use Rattle.region.specs.declared.Met.{Met}
+use Rattle.std.specs.Prelude.{Result, Ok, Err}
 use Rattle.region.specs.declared.Stop.{Stop}
 use Rattle.region.specs.declared.Stop.TheVariants.{End, Bad}
 use Rattle.region.specs.Walk.{met_at}
@@ -31,9 +31,9 @@ record_alone r' r o x sound h l e =
     ∙ ap (λ p. Entry.Stands x (check_sum_fits p)) (ap (λ q. take x.len (drop q r')) (sym t.place) ∙ e ∙ ap (λ q. take x.len (drop q r)) t.place)
     ∙ ap (entry_of r) (sym t.met)
 
-stop_same : (r' r : List ℕ) (s : Stop) → entry_of r' (Met.Stop s) ≡ entry_of r (Met.Stop s)
+stop_same : (r' r : List ℕ) (s : Stop) → entry_of r' (Err s) ≡ entry_of r (Err s)
 stop_same r' r (End p) = refl
 stop_same r' r (Bad f p) = refl
 
-pub header_alone : (r' r : List ℕ) (o : ℕ) (s : Stop) → met_at r o ≡ Met.Stop s → length r' ≡ length r → ((k : ℕ) → k < 11 → get_or r' (o + k) 0 ≡ get_or r (o + k) 0) → entry_in r' o ≡ entry_in r o
+pub header_alone : (r' r : List ℕ) (o : ℕ) (s : Stop) → met_at r o ≡ Err s → length r' ≡ length r → ((k : ℕ) → k < 11 → get_or r' (o + k) 0 ≡ get_or r (o + k) 0) → entry_in r' o ≡ entry_in r o
 header_alone r' r o s m l e = ap (entry_of r') (met_same r' r o l e ∙ m) ∙ stop_same r' r s ∙ ap (entry_of r) (sym m)

@@ -9,7 +9,7 @@ use mathlib.Core.List.{List, [], ◌++◌, append-nil, Memᴰ}
 use lib.ListN.{length, get_or, take, drop}
 use lib.Seq.{drop-length}
 use Rattle.format.specs.declared.Record.{Record}
-use Rattle.region.specs.declared.Met.{Met}
+use Rattle.std.specs.Prelude.{Result, Ok, Err}
 use Rattle.region.specs.declared.Stop.{Stop}
 use Rattle.region.specs.Walk.{met_at}
 use Rattle.refusals.specs.declared.Refusal.{Refusal}
@@ -107,7 +107,7 @@ pub only_the_record : (region' region : List ℕ) (o : ℕ) (x : Record) (sound 
 only_the_record = Bytes.record_alone
 
 -- R16.5: elsewhere the eleven bytes of a header do.
-pub only_the_header : (region' region : List ℕ) (o : ℕ) (s : Stop) → met_at region o ≡ Met.Stop s → length region' ≡ length region
+pub only_the_header : (region' region : List ℕ) (o : ℕ) (s : Stop) → met_at region o ≡ Err s → length region' ≡ length region
     → ((k : ℕ) → k < 11 → get_or region' (o + k) 0 ≡ get_or region (o + k) 0) → entry_in region' o ≡ entry_in region o
 only_the_header = Bytes.header_alone
 

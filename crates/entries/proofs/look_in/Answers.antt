@@ -1,7 +1,7 @@
 -- `entries::look_in` meets its contract: what the walk meets there, case by case.
 -- Assumes nothing.
 use mathlib.Core.Path.{◌∙◌, ap}
-use Rattle.region.specs.declared.Met.{Met}
+use Rattle.std.specs.Prelude.{Err}
 use Rattle.entries.specs.declared.Entry.{Entry}
 use Rattle.entries.proofs.Looks.{past_ends, met_is, met_lies}
 use borrow.Author.Rules.{rules}
@@ -15,22 +15,22 @@ returns-then-region-at c = search (past_ends, rules)
 pub is_sound-requires : goal.is_sound-requires
 is_sound-requires c =
     let a = c.args in
-    met_lies a.region.now a.at _ _ c.look-met.ensures c.in-Found.is
+    met_lies a.region.now a.at _ _ c.look.ensures c.in-Ok.is
 
 -- src/lib.rt:52:1
-pub returns-in-End : goal.returns-in-End
-returns-in-End c =
+pub returns-in-Err-End : goal.returns-in-Err-End
+returns-in-Err-End c =
     let a = c.args in
-    met_is a.region.now a.at _ _ c.look-met.ensures (c.in-Stop.is ∙ ap Met.Stop c.in-End.is)
+    met_is a.region.now a.at _ _ c.look.ensures (c.in-Err-End.is ∙ ap Err c.in-Err-End.field-0-is)
 
 -- src/lib.rt:52:1
-pub returns-in-Bad : goal.returns-in-Bad
-returns-in-Bad c =
+pub returns-in-Err-Bad : goal.returns-in-Err-Bad
+returns-in-Err-Bad c =
     let a = c.args in
-    met_is a.region.now a.at _ _ c.look-met.ensures (c.in-Stop.is ∙ ap Met.Stop c.in-Bad.is)
+    met_is a.region.now a.at _ _ c.look.ensures (c.in-Err-Bad.is ∙ ap Err c.in-Err-Bad.field-0-is)
 
 -- src/lib.rt:52:1
-pub returns-in-Found : goal.returns-in-Found
-returns-in-Found c =
+pub returns-in-Ok : goal.returns-in-Ok
+returns-in-Ok c =
     let a = c.args in
-    ap (Entry.Stands c.in-Found.rec) c.is_sound.ensures ∙ met_is a.region.now a.at _ _ c.look-met.ensures c.in-Found.is
+    ap (Entry.Stands c.in-Ok.rec) c.is_sound.ensures ∙ met_is a.region.now a.at _ _ c.look.ensures c.in-Ok.is
