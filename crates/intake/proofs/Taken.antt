@@ -1,21 +1,25 @@
 -- What is taken in: an image that fits its chip, of 65,536 bytes at most. Numbers that are held decide as the numbers do.
 -- Assumes nothing.
-use Prim.Native.Nat.{ℕ, ◌+◌, ◌*◌, ◌≤◌, ◌<◌}
-use native.Mathlib.Nat.{mul-le-mul_left, mul-le-mul_right}
+use Prim.Native.Nat.{ℕ, ◌+◌, ◌-◌, ◌*◌, ◌≤◌, ◌<◌}
+use native.Mathlib.Nat.{add-zero, mul-le-mul_left, mul-le-mul_right}
 use native.Mathlib.Decide.{dec_le}
 use native.Mathlib.Omega.{arith}
 use mathlib.Core.Path.{◌≡◌, refl, sym, ◌∙◌, ap}
 use mathlib.Core.Bool.{Bool, true, false, cond, ◌&&◌}
 use mathlib.Core.Logic.{◌⊎◌, inl, inr, ⊎_elim}
-use mathlib.Core.List.{List}
+use mathlib.Core.List.{List, [], ◌∷◌}
 use lib.Dec.{leb, eqb}
-use lib.ListN.{length, get_or, drop, get_or-eq_default}
+use lib.ListN.{length, get_or, take, drop, get_or-eq_default}
+use lib.Seq.{get_or-drop, drop-drop}
+use lib.Pointwise.{pointwise}
+use Rattle.std.proofs.Common.{length-drop}
+use Rattle.std.specs.Prelude.{nat_eq, Option, Some, None}
 use borrow.Author.Tests.{leb-true, eqb-true, eq-eqb, ne_eqb}
 use Rattle.chip.specs.Geometry.{geometry, Fits}
 use Rattle.chip.proofs.Image.{both, geometry_fits}
-use Rattle.intake.specs.declared.Intake.{Intake}
+use Rattle.intake.specs.declared.Chip.{Chip}
 use Rattle.intake.specs.Intake.{most_image, number_at, size_in, count_in, image_start, accepted, intake_of}
-use Rattle.intake.proofs.Digits.{held}
+use Rattle.intake.proofs.Digits.{held, from_place}
 
 -- a test and one more, of which the second is known
 and_true : (t u : Bool) → u ≡ true → (t && u) ≡ t
@@ -102,50 +106,67 @@ unfolding accepted
 accepted_is input =
     and_assoc (space_stands input && feed_stands input) (leb ((count_in input).value * (size_in input).value) most_image) (geometry (drop (image_start input) input) (size_in input).value (count_in input).value)
 
-refuses : (input : List ℕ) → (space_stands input && feed_stands input && image_stands input) ≡ false → Intake.Refused ≡ intake_of input
+refuses : (input : List ℕ) → (space_stands input && feed_stands input && image_stands input) ≡ false → None ≡ intake_of input
 unfolding intake_of
 refuses input e = rw (accepted_is input ∙ e)
 
-takes : (input : List ℕ) → (space_stands input && feed_stands input && image_stands input) ≡ true → Intake.Chip (size_in input).value (count_in input).value (image_start input) ≡ intake_of input
+takes : (input : List ℕ) → (space_stands input && feed_stands input && image_stands input) ≡ true → Some (record { s = (size_in input).value; n = (count_in input).value; start = image_start input }) ≡ intake_of input
 unfolding intake_of
 takes input e = rw (accepted_is input ∙ e)
 
-module _ (input : List ℕ) {e : ℕ} (p : e ≡ (size_in input).end) {b : ℕ} (byte : b ≡ get_or input e 0) where
-  at_space : b ≡ get_or input (size_in input).end 0
-  at_space = byte ∙ ap (λ (o : ℕ). get_or input o 0) p
+-- A text that stands behind a place begins with a byte where that byte stands there.
+begins_with : (text : List ℕ) (c : ℕ) → 0 < c → pointwise nat_eq (take 1 text) (c ∷ []) ≡ eqb (get_or text 0 0) c
+begins_with [] c h = sym (ne_eqb 0 c (λ e. absurd (omega arith)))
+begins_with (b ∷ l) c h = and_true (eqb b c) true refl
 
-  pub no_space : (b ≡ 32 → ⊥) → Intake.Refused ≡ intake_of input
+stands_at : (input text : List ℕ) (o c : ℕ) → 0 < c → text ≡ drop o input → pointwise nat_eq (take 1 text) (c ∷ []) ≡ eqb (get_or input o 0) c
+stands_at input text o c h p =
+    begins_with text c h
+    ∙ ap (λ (x : List ℕ). eqb (get_or x 0 0) c) p
+    ∙ ap (λ (b : ℕ). eqb b c) (get_or-drop o input 0 0 ∙ ap (λ (m : ℕ). get_or input m 0) (add-zero o))
+
+module _ (input : List ℕ) {size_behind : List ℕ} (p : size_behind ≡ drop (size_in input).end input) where
+  space_is : pointwise nat_eq (take 1 size_behind) (32 ∷ []) ≡ space_stands input
+  space_is = stands_at input size_behind (size_in input).end 32 (omega arith) p
+
+  pub no_space : pointwise nat_eq (take 1 size_behind) (32 ∷ []) ≡ false → None ≡ intake_of input
   no_space d =
-      let x : space_stands input ≡ false = ne_eqb _ 32 (λ k. d (at_space ∙ k)) in
-      refuses input (left_false (space_stands input && feed_stands input) (image_stands input) (left_false (space_stands input) (feed_stands input) x))
+      refuses input (left_false (space_stands input && feed_stands input) (image_stands input) (left_false (space_stands input) (feed_stands input) (sym space_is ∙ d)))
 
-  module _ {f : ℕ} (q : f ≡ (number_at input (e + 1)).end) {g : ℕ} (byte2 : g ≡ get_or input f 0) where
-    count_end : f ≡ (count_in input).end
-    count_end = q ∙ ap (λ (o : ℕ). (number_at input (o + 1)).end) p
+  module _ {text count_behind : List ℕ} (b : text ≡ drop 1 size_behind) (q : count_behind ≡ drop (number_at text 0).end text) where
+    text_is : text ≡ drop ((size_in input).end + 1) input
+    text_is = b ∙ ap (drop 1) p ∙ drop-drop 1 (size_in input).end input
 
-    at_feed : g ≡ get_or input (count_in input).end 0
-    at_feed = byte2 ∙ ap (λ (o : ℕ). get_or input o 0) count_end
+    count_is : count_behind ≡ drop (count_in input).end input
+    count_is =
+        q ∙ ap (λ (x : List ℕ). drop (number_at x 0).end x) text_is ∙ (from_place input ((size_in input).end + 1)).1
 
-    pub no_feed : (g ≡ 10 → ⊥) → Intake.Refused ≡ intake_of input
+    feed_is : pointwise nat_eq (take 1 count_behind) (10 ∷ []) ≡ feed_stands input
+    feed_is = stands_at input count_behind (count_in input).end 10 (omega arith) count_is
+
+    pub no_feed : pointwise nat_eq (take 1 count_behind) (10 ∷ []) ≡ false → None ≡ intake_of input
     no_feed d =
-        let x : feed_stands input ≡ false = ne_eqb _ 10 (λ k. d (at_feed ∙ k)) in
-        refuses input (left_false (space_stands input && feed_stands input) (image_stands input) (and_false (space_stands input) (feed_stands input) x))
+        refuses input (left_false (space_stands input && feed_stands input) (image_stands input) (and_false (space_stands input) (feed_stands input) (sym feed_is ∙ d)))
 
-    module _ {s n : ℕ} (u : s ≡ held (size_in input).value) (v : n ≡ held (number_at input (e + 1)).value) {t : Bool} (test : t ≡ is_image (drop (f + 1) input) s n) where
+    module _ {image : List ℕ} (f : image ≡ drop 1 count_behind) {s n : ℕ} (u : s ≡ held (size_in input).value) (v : n ≡ held (number_at text 0).value) {t : Bool} (test : t ≡ is_image image s n) where
+      image_behind : image ≡ drop (image_start input) input
+      image_behind = f ∙ ap (drop 1) count_is ∙ drop-drop 1 (count_in input).end input
+
       count_held : n ≡ held (count_in input).value
-      count_held = v ∙ ap (λ (o : ℕ). held (number_at input (o + 1)).value) p
+      count_held = v ∙ ap (λ (x : List ℕ). held (number_at x 0).value) text_is ∙ ap held (from_place input ((size_in input).end + 1)).0
 
       -- What is tested with the numbers that are held is what is tested with the numbers.
       image_same : t ≡ image_stands input
       image_same =
           test
-          ∙ (λ i. is_image (drop (count_end i + 1) input) (u i) (count_held i))
+          ∙ (λ i. is_image (image_behind i) (u i) (count_held i))
           ∙ image_held (drop (image_start input) input) (size_in input).value (count_in input).value
 
-      pub not_image : t ≡ false → Intake.Refused ≡ intake_of input
+      pub not_image : t ≡ false → None ≡ intake_of input
       not_image d = refuses input (and_false (space_stands input && feed_stands input) (image_stands input) (sym image_same ∙ d))
 
-      pub a_chip : b ≡ 32 → g ≡ 10 → t ≡ true → Intake.Chip s n (f + 1) ≡ intake_of input
+      pub a_chip : pointwise nat_eq (take 1 size_behind) (32 ∷ []) ≡ true → pointwise nat_eq (take 1 count_behind) (10 ∷ []) ≡ true → t ≡ true
+          → Some (record { s = s; n = n; start = length input - length image }) ≡ intake_of input
       a_chip k l d =
           let i : image_stands input ≡ true = sym image_same ∙ d in
           let h = image_small (drop (image_start input) input) (size_in input).value (count_in input).value i in
@@ -153,9 +174,12 @@ module _ (input : List ℕ) {e : ℕ} (p : e ≡ (size_in input).end) {b : ℕ} 
           let count_small : (count_in input).value ≤ most_image = h.1 in
           let w : s ≡ (size_in input).value = omega (arith, u) in
           let x : n ≡ (count_in input).value = omega (arith, count_held) in
-          let sp : space_stands input ≡ true = eq-eqb _ 32 (sym at_space ∙ k) in
-          let fe : feed_stands input ≡ true = eq-eqb _ 10 (sym at_feed ∙ l) in
-          (λ j. Intake.Chip (w j) (x j) (count_end j + 1)) ∙ takes input (λ j. sp j && fe j && i j)
+          let sp : space_stands input ≡ true = sym space_is ∙ k in
+          let fe : feed_stands input ≡ true = sym feed_is ∙ l in
+          let inside = byte_inside input (count_in input).end 10 (eqb-true _ 10 fe) (omega arith) in
+          let y : length input - length image ≡ image_start input =
+          omega (arith, ap length image_behind, length-drop (image_start input) input, inside) in
+          (λ j. Some (record { s = w j; n = x j; start = y j })) ∙ takes input (λ j. sp j && fe j && i j)
 
 -- What is taken in, as facts: what stands in the first line, and that the image is one.
 pub record Accepted (input : List ℕ) (s n start : ℕ) : Type 0 where
@@ -166,19 +190,20 @@ pub record Accepted (input : List ℕ) (s n start : ℕ) : Type 0 where
   pub feed_is : get_or input (count_in input).end 0 ≡ 10
   pub image_is_one : is_image (drop start input) s n ≡ true
 
-pub accepted_facts : (input : List ℕ) {s n start : ℕ} → intake_of input ≡ Intake.Chip s n start → Accepted input s n start
+pub accepted_facts : (input : List ℕ) {s n start : ℕ} → intake_of input ≡ Some (record { s = s; n = n; start = start }) → Accepted input s n start
 unfolding intake_of
 accepted_facts input {s} {n} {start} e = go (accepted input) refl e
   where
-    whole : Bool → Intake
-    whole t = cond t (Intake.Chip (size_in input).value (count_in input).value (image_start input)) Intake.Refused
+    whole : Bool → Option Chip
+    whole t = cond t (Some (record { s = (size_in input).value; n = (count_in input).value; start = image_start input })) None
 
-    go : (t : Bool) → accepted input ≡ t → whole t ≡ Intake.Chip s n start → Accepted input s n start
+    go : (t : Bool) → accepted input ≡ t → whole t ≡ Some (record { s = s; n = n; start = start }) → Accepted input s n start
     go false a k = let z : ◌≡◌ {A = ℕ} 0 1 = cc in absurd (omega arith)
     go true a k =
-        let p : (size_in input).value ≡ s = cc in
-        let q : (count_in input).value ≡ n = cc in
-        let r : image_start input ≡ start = cc in
+        let chip : ◌≡◌ {A = Chip} (record { s = (size_in input).value; n = (count_in input).value; start = image_start input }) (record { s = s; n = n; start = start }) = cc in
+        let p : (size_in input).value ≡ s = ap (λ (x : Chip). x.s) chip in
+        let q : (count_in input).value ≡ n = ap (λ (x : Chip). x.n) chip in
+        let r : image_start input ≡ start = ap (λ (x : Chip). x.start) chip in
         let x = both (space_stands input && feed_stands input) (image_stands input) (sym (accepted_is input) ∙ a) in
         let y = both (space_stands input) (feed_stands input) x.0 in
         record {
@@ -190,7 +215,7 @@ accepted_facts input {s} {n} {start} e = go (accepted input) refl e
           image_is_one = (λ i. is_image (drop (sym r i) input) (sym p i) (sym q i)) ∙ x.1;
         }
 
-pub facts_accepted : (input : List ℕ) {s n start : ℕ} → Accepted input s n start → intake_of input ≡ Intake.Chip s n start
+pub facts_accepted : (input : List ℕ) {s n start : ℕ} → Accepted input s n start → intake_of input ≡ Some (record { s = s; n = n; start = start })
 facts_accepted input {s} {n} {start} a =
     let p = a.size_is in
     let q = a.count_is in
@@ -198,10 +223,10 @@ facts_accepted input {s} {n} {start} a =
     let x : space_stands input ≡ true = eq-eqb _ 32 a.space_is in
     let y : feed_stands input ≡ true = eq-eqb _ 10 a.feed_is in
     let z : image_stands input ≡ true = (λ i. is_image (drop (r i) input) (p i) (q i)) ∙ a.image_is_one in
-    sym (takes input (λ i. x i && y i && z i)) ∙ (λ i. Intake.Chip (p i) (q i) (r i))
+    sym (takes input (λ i. x i && y i && z i)) ∙ (λ i. Some (record { s = p i; n = q i; start = r i }))
 
 -- Whoever is answered so has an image of N regions of S bytes from that place on, of 65,536 bytes at most, and the place lies in the input.
-pub taken : (input : List ℕ) {s n start : ℕ} → intake_of input ≡ Intake.Chip s n start → Fits (drop start input) s n × (n * s ≤ most_image) × (start ≤ length input)
+pub taken : (input : List ℕ) {s n start : ℕ} → intake_of input ≡ Some (record { s = s; n = n; start = start }) → Fits (drop start input) s n × (n * s ≤ most_image) × (start ≤ length input)
 taken input {s} {n} {start} e =
     let a = accepted_facts input e in
     let f = image_fits (drop start input) s n a.image_is_one in

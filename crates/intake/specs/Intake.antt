@@ -1,7 +1,7 @@
 -- The program's input: the first line says S and N, and the image is what stands behind it. For any bytes.
-use Rattle.std.specs.Prelude.{ℕ, ◌+◌, ◌-◌, ◌*◌, Bool, ◌&&◌, cond, List, [], ◌∷◌, leb, eqb, get_or, drop}
+use Rattle.std.specs.Prelude.{ℕ, ◌+◌, ◌-◌, ◌*◌, Bool, ◌&&◌, cond, List, [], ◌∷◌, leb, eqb, get_or, drop, Option, Some, None}
 use Rattle.chip.specs.Geometry.{geometry}
-use Rattle.intake.specs.declared.Intake.{Intake}
+use Rattle.intake.specs.declared.Chip.{Chip}
 
 -- R16.7: the image has 65,536 bytes at most.
 abbrev pub most_image : ℕ
@@ -51,5 +51,5 @@ accepted input =
     && geometry (drop (image_start input) input) (size_in input).value (count_in input).value
 
 -- R16.7: S, N and the place where the image begins; every other input is refused.
-unfoldable pub intake_of : List ℕ → Intake
-intake_of input = cond (accepted input) (Intake.Chip (size_in input).value (count_in input).value (image_start input)) Intake.Refused
+unfoldable pub intake_of : List ℕ → Option Chip
+intake_of input = cond (accepted input) (Some (record { s = (size_in input).value; n = (count_in input).value; start = image_start input })) None

@@ -13,7 +13,8 @@ use borrow.Author.Tests.{le-leb}
 use Rattle.chip.specs.Geometry.{geometry, Shape, Fits}
 use Rattle.chip.proofs.Image.{fits_geometry}
 use Rattle.lines.specs.Text.{space, line_feed, decimal}
-use Rattle.intake.specs.declared.Intake.{Intake}
+use Rattle.std.specs.Prelude.{Option, Some, None}
+use Rattle.intake.specs.declared.Chip.{Chip}
 use Rattle.intake.specs.Intake.{most_image, Number, number_at, size_in, count_in, intake_of}
 use Rattle.intake.proofs.Taken.{is_image, image_small, Accepted, accepted_facts, facts_accepted, taken}
 use Rattle.listed.specs.Words.{first_line}
@@ -77,7 +78,7 @@ module _ (s n : ℕ) (image : List ℕ) (h : Shape s n) (size : length image ≡
 
 -- R16.7: a first line of an S and an N within the limits, and N times S bytes behind it, 65,536 at most: that is taken in,
 pub accepted_all : (s n : ℕ) (image : List ℕ) → Shape s n → n * s ≤ most_image → length image ≡ n * s
-    → intake_of (first_line s n ++ image) ≡ Intake.Chip s n (length (first_line s n))
+    → intake_of (first_line s n ++ image) ≡ Some (record { s = s; n = n; start = length (first_line s n) })
 accepted_all s n image h few size = ap intake_of (line_image s n image) ∙ facts_accepted (input s n image h size few) (facts s n image h size few)
 
 -- R16.7: with just that image.
@@ -86,7 +87,7 @@ accepted_image s n image = drop-append_seam (first_line s n) image
 
 -- R16.7: nothing else is: no letter, sign or leading zero, no second space, no carriage return, no number too long, no line that does not end, and
 -- not a byte too few or too many.
-pub accepted_only : (input : List ℕ) {s n start : ℕ} → intake_of input ≡ Intake.Chip s n start
+pub accepted_only : (input : List ℕ) {s n start : ℕ} → intake_of input ≡ Some (record { s = s; n = n; start = start })
     → (input ≡ first_line s n ++ drop start input) × (length (first_line s n) ≡ start) × Fits (drop start input) s n × (n * s ≤ most_image)
 accepted_only input {s} {n} {start} e =
     let a = accepted_facts input e in
@@ -109,7 +110,7 @@ accepted_only input {s} {n} {start} e =
     (whole, omega arith, t.0, t.1)
 
 -- The first line has 12 bytes at most.
-line_short : (input : List ℕ) {s n start : ℕ} → intake_of input ≡ Intake.Chip s n start → length input ≤ 65536 + 12
+line_short : (input : List ℕ) {s n start : ℕ} → intake_of input ≡ Some (record { s = s; n = n; start = start }) → length input ≤ 65536 + 12
 line_short input {s} {n} {start} e =
     let o = accepted_only input e in
     let a = accepted_facts input e in
@@ -125,9 +126,9 @@ line_short input {s} {n} {start} e =
     omega arith
 
 -- R16.7: an input of more bytes than any image and its first line can have is refused,
-pub long_refused : (input : List ℕ) → 65536 + 16 < length input → intake_of input ≡ Intake.Refused
+pub long_refused : (input : List ℕ) → 65536 + 16 < length input → intake_of input ≡ None
 long_refused input h = go (intake_of input) refl
   where
-    go : (x : Intake) → intake_of input ≡ x → x ≡ Intake.Refused
-    go Intake.Refused e = refl
-    go (Intake.Chip s n start) e = let l = line_short input e in absurd (omega arith)
+    go : (x : Option Chip) → intake_of input ≡ x → x ≡ None
+    go None e = refl
+    go (Some chip) e = let l = line_short input e in absurd (omega arith)

@@ -22,7 +22,8 @@ use Rattle.plans.specs.Writes.{applied}
 use Rattle.store.specs.Write.{append_of}
 use Rattle.afternoons.specs.Table.{S, N, blank, after_three}
 use Rattle.entries.specs.Inventory.{items_in, inventory_of, inventory}
-use Rattle.intake.specs.declared.Intake.{Intake}
+use Rattle.std.specs.Prelude.{Option, Some, None}
+use Rattle.intake.specs.declared.Chip.{Chip}
 use Rattle.intake.specs.Intake.{most_image, number_in, number_at, accepted, intake_of}
 use Rattle.lines.specs.Text.{decimal_in, line_of, header_line, refused_line}
 use Rattle.listing.specs.Listing.{lines_of, text_of, listing_by, listing, most_read, most_text, filled, text_length}
@@ -47,11 +48,11 @@ pub refuses : (input : List ℕ)
 unfolding listing
 refuses input none = go (intake_of input) refl
   where
-    go : (i : Intake) → intake_of input ≡ i → listing_by input i ≡ refused_line
-    go Intake.Refused e = refl
-    go (Intake.Chip s n start) e =
+    go : (i : Option Chip) → intake_of input ≡ i → listing_by input i ≡ refused_line
+    go None e = refl
+    go (Some chip) e =
         let (is, _, fits, most) = accepted_only input e in
-        absurd (none s n (drop start input) fits.shape most fits.size is)
+        absurd (none chip.s chip.n (drop chip.start input) fits.shape most fits.size is)
 
 -- R16.7: what the program reads of an input is enough: of a longer one nothing else would be written.
 pub reads_enough : (input : List ℕ) → listing (take most_read input) ≡ listing input

@@ -13,7 +13,8 @@ use Rattle.entries.specs.declared.Entry.{Entry}
 use Rattle.entries.specs.Entries.{entry_at}
 use Rattle.entries.specs.Inventory.{inventory}
 use Rattle.entries.proofs.Steps.{inventory_from, here, from_ends, from_bad, from_over, not_refused, from_first}
-use Rattle.intake.specs.declared.Intake.{Intake}
+use Rattle.std.specs.Prelude.{Option, Some, None}
+use Rattle.intake.specs.declared.Chip.{Chip}
 use Rattle.intake.specs.Intake.{intake_of}
 use Rattle.intake.proofs.Taken.{taken}
 use Rattle.lines.specs.Text.{line_of, header_line}
@@ -59,11 +60,11 @@ pub short_listing : (input : List ℕ) → length (listing input) < most_text
 unfolding listing
 short_listing input = go (intake_of input) refl
   where
-    go : (i : Intake) → intake_of input ≡ i → length (listing_by input i) < most_text
-    go Intake.Refused e = omega arith
-    go (Intake.Chip s n start) e =
+    go : (i : Option Chip) → intake_of input ≡ i → length (listing_by input i) < most_text
+    go None e = omega arith
+    go (Some chip) e =
         let t = taken input e in
-        omega (arith, length-append header_line (text_of (inventory (drop start input) s n)), short_text t.0, t.1)
+        omega (arith, length-append header_line (text_of (inventory (drop chip.start input) chip.s chip.n)), short_text t.0, t.1)
 
 -- What is called text lies in the buffer.
 pub text_inside : (input out : List ℕ) → text_length input out ≤ length out

@@ -8,7 +8,8 @@ use lib.ListN.{length, take, drop}
 use borrow.Author.Tests.{le-leb, lt-leb}
 use borrow.Author.Rules.{part_to_end}
 use Rattle.chip.specs.Geometry.{Fits}
-use Rattle.intake.specs.declared.Intake.{Intake}
+use Rattle.std.specs.Prelude.{Some, None}
+use Rattle.intake.specs.declared.Chip.{Chip}
 use Rattle.intake.specs.Intake.{most_image, intake_of}
 use Rattle.intake.proofs.Taken.{taken}
 use Rattle.entries.specs.Inventory.{inventory}
@@ -28,22 +29,22 @@ fills : (input out out' : List ℕ) (r : ℕ) → most_text ≤ length out → P
 unfolding filled text_length
 fills input out out' r h p = let e = le-leb most_text (length out) h in (rw e p.0, rw e (omega (arith, p.1)))
 
-pub refused_line_lem : (input out out' : List ℕ) (r : ℕ) → most_text ≤ length out → intake_of input ≡ Intake.Refused → Put out 0 refused_line out' r → Fills input out out' r
+pub refused_line_lem : (input out out' : List ℕ) (r : ℕ) → most_text ≤ length out → intake_of input ≡ None → Put out 0 refused_line out' r → Fills input out out' r
 unfolding listing
 refused_line_lem input out out' r h e p = fills input out out' r h (subst (λ (t : List ℕ). Put out 0 t out' r) (ap (listing_by input) (sym e)) p)
 
-module _ (input : List ℕ) {s n start : ℕ} (e : intake_of input ≡ Intake.Chip s n start) where
-  pub image_behind : start ≤ length input
+module _ (input : List ℕ) {chip : Chip} (e : intake_of input ≡ Some chip) where
+  pub image_behind : chip.start ≤ length input
   image_behind = (taken input e).2
 
-  pub image_fits : Fits (take (length input - start) (drop start input)) s n × (n * s ≤ most_image)
-  image_fits = (rw (part_to_end input start) (taken input e).0, (taken input e).1)
+  pub image_fits : Fits (take (length input - chip.start) (drop chip.start input)) chip.s chip.n × (chip.n * chip.s ≤ most_image)
+  image_fits = (rw (part_to_end input chip.start) (taken input e).0, (taken input e).1)
 
   pub chip_lines : (out out₁ out₂ : List ℕ) (r₁ r₂ : ℕ) → most_text ≤ length out → Put out 0 header_line out₁ r₁
-      → Put out₁ r₁ (text_of (inventory (take (length input - start) (drop start input)) s n)) out₂ r₂ → Fills input out out₂ r₂
+      → Put out₁ r₁ (text_of (inventory (take (length input - chip.start) (drop chip.start input)) chip.s chip.n)) out₂ r₂ → Fills input out out₂ r₂
   unfolding listing
   chip_lines out out₁ out₂ r₁ r₂ h p q =
-      let t = text_of (inventory (drop start input) s n) in
-      let w : Put out₁ r₁ t out₂ r₂ = subst (λ (l : List ℕ). Put out₁ r₁ (text_of (inventory l s n)) out₂ r₂) (part_to_end input start) q in
+      let t = text_of (inventory (drop chip.start input) chip.s chip.n) in
+      let w : Put out₁ r₁ t out₂ r₂ = subst (λ (l : List ℕ). Put out₁ r₁ (text_of (inventory l chip.s chip.n)) out₂ r₂) (part_to_end input chip.start) q in
       fills input out out₂ r₂ h
       (subst (λ (z : List ℕ). Put out 0 z out₂ r₂) (ap (listing_by input) (sym e)) (put_more out out₁ out₂ header_line t 0 r₁ r₂ p w))

@@ -1,8 +1,8 @@
 -- What the program writes, for any bytes that it reads.
-use Rattle.std.specs.Prelude.{ℕ, cond, List, [], ◌∷◌, ◌++◌, leb, length, drop}
+use Rattle.std.specs.Prelude.{ℕ, cond, List, [], ◌∷◌, ◌++◌, leb, length, drop, Option, Some, None}
 use Rattle.std.proofs.lemmas.List.Edits.{sets}
 use Rattle.entries.specs.Inventory.{Item, Last, through, bad, refused, Inventory, inventory}
-use Rattle.intake.specs.declared.Intake.{Intake}
+use Rattle.intake.specs.declared.Chip.{Chip}
 use Rattle.intake.specs.Intake.{intake_of}
 use Rattle.lines.specs.Text.{line_of, bad_line, header_line, refused_line}
 
@@ -22,9 +22,9 @@ abbrev pub text_of : Inventory → List ℕ
 text_of v = lines_of v.items ++ last_line v.last
 
 -- R16.7, R16.8: the header line and the lines of the chip, or the one line of a refused input
-abbrev pub listing_by : List ℕ → Intake → List ℕ
-listing_by input Intake.Refused = refused_line
-listing_by input (Intake.Chip s n start) = header_line ++ text_of (inventory (drop start input) s n)
+abbrev pub listing_by : List ℕ → Option Chip → List ℕ
+listing_by input None = refused_line
+listing_by input (Some chip) = header_line ++ text_of (inventory (drop chip.start input) chip.s chip.n)
 
 -- R16.7, R16.8, R16.9: all that the program writes, for any input.
 unfoldable pub listing : List ℕ → List ℕ

@@ -10,7 +10,7 @@ ghost use Rattle.intake.specs.Intake.{most_image};
 ghost use Rattle.listing.specs.Listing.{text_of, most_text, filled, text_length};
 
 use entries::Entry;
-use intake::Intake;
+use intake::Chip;
 
 // R16.10: a buffer of so many bytes takes the text of any input.
 pub const MOST_TEXT: usize = 180224;
@@ -59,12 +59,9 @@ pub fn list(input: &[u8], out: &mut [u8]) -> usize
     if out.len() < MOST_TEXT {
         return 0;
     }
-    let taken = intake::take_in(input);
-    match taken {
-        Intake::Refused => lines::put_refused(out, 0),
-        Intake::Chip { s, n, start } => {
-            let at = lines::put_header(out, 0);
-            list_from(&input[start..], s, n, out, at)
-        }
-    }
+    let Some(Chip { s, n, start }) = intake::take_in(input) else {
+        return lines::put_refused(out, 0);
+    };
+    let at = lines::put_header(out, 0);
+    list_from(&input[start..], s, n, out, at)
 }

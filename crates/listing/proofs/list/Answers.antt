@@ -9,19 +9,19 @@ pub returns-then-out-lt-MOST_TEXT : goal.returns-then-out-lt-MOST_TEXT
 returns-then-out-lt-MOST_TEXT c = too_short _ _ (omega arith)
 
 pub slice_bounds-list_from-count : goal.slice_bounds-list_from-count
-slice_bounds-list_from-count c = image_behind c.args.input.now (sym c.take_in-taken.ensures ∙ c.in-Chip.is)
+slice_bounds-list_from-count c = image_behind c.args.input.now (sym c.take_in.ensures ∙ c.in-Some.is)
 
 pub slice_bounds-list_from-start : goal.slice_bounds-list_from-start
-slice_bounds-list_from-start c = image_behind c.args.input.now (sym c.take_in-taken.ensures ∙ c.in-Chip.is)
+slice_bounds-list_from-start c = image_behind c.args.input.now (sym c.take_in.ensures ∙ c.in-Some.is)
 
 pub list_from-requires : goal.list_from-requires
 list_from-requires c =
-    let f = image_fits c.args.input.now (sym c.take_in-taken.ensures ∙ c.in-Chip.is) in
+    let f = image_fits c.args.input.now (sym c.take_in.ensures ∙ c.in-Some.is) in
     (f.0, f.1, omega arith, omega arith)
 
-pub returns-in-Refused : goal.returns-in-Refused
-returns-in-Refused c = refused_line_lem c.args.input.now c.args.out.now _ _ (omega arith) (sym c.take_in-taken.ensures ∙ c.in-Refused.is) c.put_refused.ensures
+pub returns-in_default : goal.returns-in_default
+returns-in_default c = refused_line_lem c.args.input.now c.args.out.now _ _ (omega arith) (sym c.take_in.ensures ∙ c.in_default.is) c.put_refused.ensures
 
-pub returns-in-Chip : goal.returns-in-Chip
-returns-in-Chip c =
-    chip_lines c.args.input.now (sym c.take_in-taken.ensures ∙ c.in-Chip.is) c.args.out.now _ _ _ _ (omega arith) c.put_header-at.ensures c.list_from.ensures
+pub returns : goal.returns
+returns c =
+    chip_lines c.args.input.now (sym c.take_in.ensures ∙ c.in-Some.is) c.args.out.now _ _ _ _ (omega arith) c.put_header-at.ensures c.list_from.ensures
