@@ -5,6 +5,7 @@ use native.Mathlib.Omega.{arith}
 use mathlib.Core.Path.{◌≡◌, refl, sym, ◌∙◌, ap}
 use mathlib.Core.Bool.{Bool, true, false}
 use mathlib.Core.List.{List}
+use mathlib.Core.Logic.{◌⊎◌, ⊎_elim}
 use lib.ListN.{length}
 use borrow.Author.Tests.{lt-ltb, le-ltb}
 use Rattle.chip.specs.Geometry.{geometry, region_of, Fits}
@@ -13,12 +14,13 @@ use Rattle.format.specs.declared.Record.{Record}
 use Rattle.format.specs.Layout.{check_sum_fits}
 use Rattle.std.specs.Prelude.{Result, Ok, Err}
 use Rattle.region.specs.declared.Stop.{Stop}
+use Rattle.format.specs.declared.Fault.{Fault}
 use Rattle.region.specs.declared.Stop.TheVariants.{End, Bad}
 use Rattle.region.specs.Walk.{met_at, bytes_in}
 use Rattle.region.proofs.Steps.{found_fits, found_at, end_short}
 use Rattle.refusals.specs.declared.Refusal.{Refusal}
 use Rattle.entries.specs.declared.Entry.{Entry}
-use Rattle.entries.specs.Entries.{entry_of, entry_in, entry_at, staying, shown_at}
+use Rattle.entries.specs.Entries.{entry_of, entry_in, entry_at, staying, going_on, shown, shown_at}
 
 -- In a region.
 
@@ -50,6 +52,14 @@ no_region image s n r o g h = rw (g, le-ltb r n h)
 pub in_region_lem : (image : List ℕ) (s n r o : ℕ) → geometry image s n ≡ true → r < n → entry_at image s n r o ≡ entry_in (region_of s image r) o
 unfolding entry_at
 in_region_lem image s n r o g h = rw (g, lt-ltb r n h)
+
+-- where a region ends or is bad the next one follows
+pub goes_on : (r o : ℕ) (e : Entry) → (e ≡ Entry.Ends) ⊎ ((f : Fault) × (e ≡ Entry.Bad f)) → going_on e r ≡ shown r o e
+goes_on r o e h = ⊎_elim (λ p. rw p) (λ p. rw p.1) h
+
+-- where there is no such region, or no chip, the place is the same
+pub stays : (r o : ℕ) (e : Entry) → (e ≡ Entry.Over) ⊎ ((w : Refusal) × (e ≡ Entry.Refused w)) → staying e r o ≡ shown r o e
+stays r o e h = ⊎_elim (λ p. rw p) (λ p. rw p.1) h
 
 -- What a record that stands at a place says of the place.
 pub record Stood (region : List ℕ) (o : ℕ) (x : Record) (sound : Bool) : Type 0 where

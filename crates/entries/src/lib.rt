@@ -17,6 +17,29 @@ pub struct Place {
     pub at: usize,
 }
 
+impl Place {
+    // R16.5: the same place again: there is nowhere to go on.
+    fn stay(self, entry: Entry) -> Shown
+        ensures { result ≡ staying entry self.region self.at }
+    {
+        Shown { entry, next: self }
+    }
+
+    // R16.5: the start of the next region.
+    fn go_on(self, entry: Entry) -> Shown
+        requires { self.region ≤ 65536 }
+        ensures { result ≡ going_on entry self.region }
+    {
+        Shown {
+            entry,
+            next: Place {
+                region: self.region + 1,
+                at: 0,
+            },
+        }
+    }
+}
+
 // R16.4: what stands at a place of a chip.
 #[derive(Clone, Copy)]
 pub enum Entry {
@@ -66,54 +89,29 @@ fn look_in(region: &[u8], at: usize) -> Entry
     }
 }
 
-// R16.5: the same place again: there is nowhere to go on.
-fn stay(entry: Entry, region: usize, at: usize) -> Shown
-    ensures { result ≡ staying entry region at }
-{
-    Shown {
-        entry,
-        next: Place { region, at },
-    }
-}
-
-// R16.5: the start of the next region.
-fn go_on(entry: Entry, region: usize) -> Shown
-    requires { region ≤ 65536 }
-    ensures { result ≡ going_on entry region }
-{
-    Shown {
-        entry,
-        next: Place {
-            region: region + 1,
-            at: 0,
-        },
-    }
-}
-
 // R16.4, R16.5: what stands at a place of a region, and where to go on. It looks at that place alone, so a pass over a chip is one walk of it.
 pub fn record_at(image: &[u8], s: usize, n: usize, region: usize, at: usize) -> Shown
     ensures { result ≡ shown_at image.now s n region at }
 {
+    let here = Place { region, at };
     if !chip::fits(image, s, n) {
-        return stay(Entry::Refused(Refusal::BadGeometry), region, at);
+        return here.stay(Entry::Refused(Refusal::BadGeometry));
     }
     if region >= n {
-        return stay(Entry::Over, region, at);
+        return here.stay(Entry::Over);
     }
     let a = region * s;
     let e = a + s;
     let entry = look_in(&image[a..e], at);
     match entry {
-        Entry::Stands { rec, sound: _ } => Shown {
+        Entry::Stands { rec, .. } => Shown {
             entry,
             next: Place {
-                region,
                 at: at + rec.len,
+                ..here
             },
         },
-        Entry::Ends => go_on(entry, region),
-        Entry::Bad(_) => go_on(entry, region),
-        Entry::Over => stay(entry, region, at),
-        Entry::Refused(_) => stay(entry, region, at),
+        Entry::Ends | Entry::Bad(_) => here.go_on(entry),
+        Entry::Over | Entry::Refused(_) => here.stay(entry),
     }
 }

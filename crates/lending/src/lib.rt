@@ -3,52 +3,41 @@
 #![tactic(auto)]
 
 ghost use Rattle.std.specs.Prelude.{◌≡◌, ◌+◌, ◌≤◌, ◌<◌, length};
-ghost use Rattle.lending.specs.Lending.{nowhere, located_in, located_of, companion_of, value_of};
+ghost use Rattle.lending.specs.Lending.{located_in, located_of, companion_of, value_of};
 
 use format::Record;
 use lookup::Hit;
 use plans::Answer;
 use refusals::Refusal;
 
-// R16.1, R16.2: what is answered, and the image place of the value's first byte.
+// R16.1, R16.2: where a value lies: the image place of its first byte, and how many it has.
 #[derive(Clone, Copy)]
-pub struct Located {
-    pub answer: Answer,
+pub struct Part {
     pub place: usize,
-}
-
-impl Located {
-    fn nowhere(refusal: Refusal) -> Located
-        ensures { result ≡ nowhere refusal }
-    {
-        Located {
-            answer: Answer::Refused(refusal),
-            place: 0,
-        }
-    }
+    pub len: usize,
 }
 
 // R16.1, R16.2: by the record that was found, in its region, which begins at an image place. Nothing is handed out before the checksum is right.
-fn locate(region: &[u8], start: usize, rec: Record) -> Located
+fn locate(region: &[u8], start: usize, rec: Record) -> Result<Part, Refusal>
     requires { (15 ≤ rec.len) × (rec.at + rec.len ≤ length region.now) × (start + length region.now < 18446744073709551616) }
     ensures { result ≡ located_in region.now start rec }
 {
     if !entries::is_sound(region, rec) {
-        return Located::nowhere(Refusal::InvalidCheckSum);
+        return Err(Refusal::InvalidCheckSum);
     }
-    Located {
-        answer: Answer::Complete(rec.len - Record::LEAST),
+    Ok(Part {
         place: start + rec.at + Record::HEADER_LENGTH,
-    }
+        len: rec.len - Record::LEAST,
+    })
 }
 
 // R16.1, R16.2: where a key's value lies.
-pub fn find_value(image: &[u8], s: usize, n: usize, key: u64) -> Located
+pub fn find_value(image: &[u8], s: usize, n: usize, key: u64) -> Result<Part, Refusal>
     ensures { result ≡ located_of image.now s n key }
 {
     let hit = lookup::find_key(image, s, n, key);
     match hit {
-        Hit::Refused(refusal) => Located::nowhere(refusal),
+        Hit::Refused(refusal) => Err(refusal),
         Hit::Live { region, rec } => {
             let a = region * s;
             let e = a + s;
@@ -61,20 +50,18 @@ pub fn find_value(image: &[u8], s: usize, n: usize, key: u64) -> Located
 pub fn value_answer(image: &[u8], s: usize, n: usize, key: u64) -> Answer
     ensures { result ≡ companion_of image.now s n key }
 {
-    let found = find_value(image, s, n, key);
-    found.answer
+    match find_value(image, s, n, key) {
+        Ok(part) => Answer::Complete(part.len),
+        Err(refusal) => Answer::Refused(refusal),
+    }
 }
 
 // R16.3: the value, as a part of the caller's image; empty where the companion refuses, and where the value is.
 pub fn value_of(image: &[u8], s: usize, n: usize, key: u64) -> &[u8]
     ensures { result.now ≡ value_of image.now s n key }
 {
-    let found = find_value(image, s, n, key);
-    let answer = found.answer;
-    let place = found.place;
-    if let Answer::Complete(len) = answer {
-        let end = place + len;
-        return &image[place..end];
+    match find_value(image, s, n, key) {
+        Ok(Part { place, len }) => &image[place..place + len],
+        Err(_) => &[],
     }
-    &image[0..0]
 }

@@ -1,13 +1,15 @@
 -- What is found in a chip, in numbers, as C and Rust see it.
-use Rattle.std.specs.Prelude.{ℕ, ◌+◌, ◌*◌, Bool, cond}
+use Rattle.std.specs.Prelude.{ℕ, ◌+◌, ◌*◌, ◌≤◌, ◌<◌, Bool, cond, Result, ⊤}
 use Rattle.format.specs.declared.Record.{Record}
 use Rattle.format.specs.Layout.{header_length, live}
 use Rattle.region.specs.Walk.{value_length}
+use Rattle.refusals.specs.declared.Refusal.{Refusal}
 use Rattle.refusals.specs.Refusals.{number, refusal_of}
 use Rattle.entries.specs.declared.Place.{Place}
 use Rattle.entries.specs.declared.Entry.{Entry}
 use Rattle.entries.specs.declared.Shown.{Shown}
-use Rattle.lending.specs.declared.Located.{Located}
+use Rattle.lending.specs.declared.Part.{Part}
+use Rattle.lending.specs.Lending.{answer_of, place_of}
 use Rattle.replies.specs.Answers.{answer_numbers}
 use Rattle.sights.specs.declared.CFound.{CFound}
 use Rattle.sights.specs.declared.CEntry.{CEntry}
@@ -17,8 +19,8 @@ abbrev pub flag : Bool → ℕ
 flag b = cond b 1 0
 
 -- R16.11: where a value is: the answer's numbers and the place
-abbrev pub found_numbers : Located → CFound
-found_numbers l = record { answer = answer_numbers l.answer; place = l.place }
+abbrev pub found_numbers : Result Part Refusal → CFound
+found_numbers found = record { answer = answer_numbers (answer_of found); place = place_of found }
 
 -- R16.11: no record stands there: the kind, the refusal's number, and where to go on; the rest is 0
 abbrev pub empty_numbers : ℕ → ℕ → Place → CEntry
@@ -60,3 +62,11 @@ entry_numbers start next (Entry.Refused w) = empty_numbers 0 (number w) next
 -- R16.11: what stands at a place of region r, in numbers, for regions of s bytes.
 abbrev pub shown_numbers : ℕ → ℕ → Shown → CEntry
 shown_numbers s r t = entry_numbers (r * s) t.next t.entry
+
+-- R16.4: a record that stands at a place is a whole one, and its image place is a number of 64 bits: so it is of whatever the call shows.
+abbrev pub StandsIn : ℕ → ℕ → Entry → Type 0
+StandsIn s r (Entry.Stands x sound) = (15 ≤ x.len) × (r * s + x.at + 11 < 18446744073709551616)
+StandsIn s r Entry.Ends = ⊤
+StandsIn s r (Entry.Bad f) = ⊤
+StandsIn s r Entry.Over = ⊤
+StandsIn s r (Entry.Refused w) = ⊤

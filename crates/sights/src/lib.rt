@@ -3,11 +3,13 @@
 #![tactic(auto)]
 
 ghost use Rattle.std.specs.Prelude.{◌≡◌, ◌+◌, ◌≤◌, ◌<◌};
-ghost use Rattle.sights.specs.Sights.{flag, found_numbers, empty_numbers, record_numbers};
+ghost use Rattle.sights.specs.Sights.{found_numbers, empty_numbers, record_numbers, StandsIn, shown_numbers};
 
-use entries::Place;
+use entries::{Entry, Place, Shown};
 use format::Record;
-use lending::Located;
+use lending::Part;
+use plans::Answer;
+use refusals::Refusal;
 use replies::CAnswer;
 
 // R16.11: where a key's value is: the answer, and the image place of the value's first byte, 0 where it is refused.
@@ -34,24 +36,19 @@ pub struct CEntry {
     pub next: Place,
 }
 
-// R16.11: yes is 1, no is 0.
-fn number_of(yes: bool) -> u32
-    ensures { result ≡ flag yes }
-{
-    if yes {
-        return 1;
-    }
-    0
-}
-
 // R16.11: where a value is, in numbers.
-pub fn found_numbers(found: Located) -> CFound
+pub fn found_numbers(found: Result<Part, Refusal>) -> CFound
     ensures { result ≡ found_numbers found }
 {
-    let answer = found.answer;
-    CFound {
-        answer: replies::answer_numbers(answer),
-        place: found.place,
+    match found {
+        Ok(Part { place, len }) => CFound {
+            answer: replies::answer_numbers(Answer::Complete(len)),
+            place,
+        },
+        Err(refusal) => CFound {
+            answer: replies::answer_numbers(Answer::Refused(refusal)),
+            place: 0,
+        },
     }
 }
 
@@ -79,11 +76,26 @@ pub fn record_numbers(start: usize, rec: Record, sound: bool, next: Place) -> CE
     CEntry {
         kind: 1,
         refusal: 0,
-        live: number_of(rec.is_live()),
-        sound: number_of(sound),
+        live: u32::from(rec.is_live()),
+        sound: u32::from(sound),
         key: rec.key,
         place: start + rec.at + Record::HEADER_LENGTH,
         length: rec.len - Record::LEAST,
         next,
+    }
+}
+
+// R16.11: what stands at a place of a region of S bytes, and where to go on.
+pub fn shown_numbers(s: usize, region: usize, shown: Shown) -> CEntry
+    requires { StandsIn s region shown.entry }
+    ensures { result ≡ shown_numbers s region shown }
+{
+    let Shown { entry, next } = shown;
+    match entry {
+        Entry::Stands { rec, sound } => record_numbers(region * s, rec, sound, next),
+        Entry::Ends => empty_numbers(2, 0, next),
+        Entry::Bad(fault) => empty_numbers(3, Refusal::of(fault).number(), next),
+        Entry::Over => empty_numbers(4, 0, next),
+        Entry::Refused(refusal) => empty_numbers(0, refusal.number(), next),
     }
 }

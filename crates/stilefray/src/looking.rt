@@ -1,8 +1,6 @@
 // Looking into a chip that lies in memory: nothing is written, and nothing is copied.
 ghost use Rattle.stilefray.specs.Allows.{FindValueAllows, RecordAtAllows};
 
-use entries::Entry;
-use refusals::Refusal;
 use sights::{CEntry, CFound};
 
 // R16.1, R16.2: where a key's value lies.
@@ -16,14 +14,5 @@ pub fn stilefray_find_value(image: &[u8], s: usize, n: usize, key: u64) -> CFoun
 pub fn stilefray_record_at(image: &[u8], s: usize, n: usize, region: usize, place: usize) -> CEntry
     ensures { RecordAtAllows image.now s n region place result }
 {
-    let shown = entries::record_at(image, s, n, region, place);
-    let entry = shown.entry;
-    let next = shown.next;
-    match entry {
-        Entry::Stands { rec, sound } => sights::record_numbers(region * s, rec, sound, next),
-        Entry::Ends => sights::empty_numbers(2, 0, next),
-        Entry::Bad(fault) => sights::empty_numbers(3, Refusal::of(fault).number(), next),
-        Entry::Over => sights::empty_numbers(4, 0, next),
-        Entry::Refused(refusal) => sights::empty_numbers(0, refusal.number(), next),
-    }
+    sights::shown_numbers(s, region, entries::record_at(image, s, n, region, place))
 }

@@ -15,11 +15,12 @@ use Rattle.region.specs.Walk.{met_at}
 use Rattle.refusals.specs.declared.Refusal.{Refusal}
 use Rattle.plans.specs.declared.Answer.{Answer}
 use Rattle.plans.specs.declared.Answer.TheVariants.{Complete, Refused}
+use Rattle.std.specs.Prelude.{Result}
 use Rattle.store.specs.Read.{Got, get_of}
 use Rattle.bindings.specs.WellFormed.{WellFormed, Bound}
 use Rattle.bindings.proofs.Theorems.{get_finds}
-use Rattle.lending.specs.declared.Located.{Located}
-use Rattle.lending.specs.Lending.{located_of, companion_of, part_at, value_of}
+use Rattle.lending.specs.declared.Part.{Part}
+use Rattle.lending.specs.Lending.{located_of, place_of, companion_of, part_at, value_of}
 use Rattle.lending.proofs.Lies.{lent, refused_place}
 use Rattle.entries.specs.declared.Entry.{Entry}
 use Rattle.entries.specs.declared.Shown.{Shown}
@@ -50,9 +51,9 @@ module _ (image : List ℕ) (s n key : ℕ) where
 
   -- R16.2, R16.3: where it completes the part is the very bytes at that place of the image, as many as it says, and they lie in the image.
   pub part_is : (len : ℕ) → companion_of image s n key ≡ Complete len
-      → (value_of image s n key ≡ take len (drop (located_of image s n key).place image))
+      → (value_of image s n key ≡ take len (drop (place_of (located_of image s n key)) image))
       × (length (value_of image s n key) ≡ len)
-      × ((located_of image s n key).place + len ≤ length image)
+      × (place_of (located_of image s n key) + len ≤ length image)
   part_is len q = (Values.lent_is image s n key q, Values.lent_length image s n key q, (lent image s n key len q).inside)
 
   -- R16.3: it is what get copies into a buffer long enough.
@@ -61,8 +62,8 @@ module _ (image : List ℕ) (s n key : ℕ) where
   part_is_got len buffer q h = Values.lent_got image s n key q buffer h
 
   -- R16.2, R16.3: where it refuses the place is 0 and the part is empty.
-  pub refused_lends_nothing : (w : Refusal) → companion_of image s n key ≡ Refused w → ((located_of image s n key).place ≡ 0) × (value_of image s n key ≡ [])
-  refused_lends_nothing w q = (refused_place image s n key w q, ap (part_at image (located_of image s n key).place) q)
+  pub refused_lends_nothing : (w : Refusal) → companion_of image s n key ≡ Refused w → (place_of (located_of image s n key) ≡ 0) × (value_of image s n key ≡ [])
+  refused_lends_nothing w q = (refused_place image s n key w q, ap (part_at image (place_of (located_of image s n key))) q)
 
   -- R16.3: the part is empty exactly when the companion refuses or the value is empty.
   pub empty_exactly : (value_of image s n key ≡ []) ↔ (((w : Refusal) × (companion_of image s n key ≡ Refused w)) ⊎ (companion_of image s n key ≡ Complete 0))
@@ -139,7 +140,7 @@ module _ (image : List ℕ) (s n : ℕ) where
   pub companion_only_one : (key : ℕ) {a a' : Answer} → a ≡ companion_of image s n key → a' ≡ companion_of image s n key → a ≡ a'
   companion_only_one key p p' = p ∙ sym p'
 
-  pub located_only_one : (key : ℕ) {a a' : Located} → a ≡ located_of image s n key → a' ≡ located_of image s n key → a ≡ a'
+  pub located_only_one : (key : ℕ) {a a' : Result Part Refusal} → a ≡ located_of image s n key → a' ≡ located_of image s n key → a ≡ a'
   located_only_one key p p' = p ∙ sym p'
 
   pub shown_only_one : (region place : ℕ) {a a' : Shown} → a ≡ shown_at image s n region place → a' ≡ shown_at image s n region place → a ≡ a'

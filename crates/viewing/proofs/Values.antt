@@ -30,7 +30,7 @@ use Rattle.plans.specs.declared.Answer.TheVariants.{Complete, Written, Freed, Re
 use Rattle.values.specs.Values.{read_answer}
 use Rattle.store.specs.Read.{got_by, get_of}
 use Rattle.entries.specs.Entries.{sound_in}
-use Rattle.lending.specs.Lending.{located_by, located_of, companion_of, part_at, value_of}
+use Rattle.lending.specs.Lending.{located_by, located_of, answer_of, place_of, companion_of, part_at, value_of}
 use Rattle.lending.proofs.Lies.{Lent, lent}
 
 -- a record's value, where it lies in the image
@@ -50,8 +50,8 @@ module _ (image : List ℕ) (s n key : ℕ) {len : ℕ} (q : companion_of image 
   l : Lent image s n key len
   l = lent image s n key len q
 
-  pub lent_is : value_of image s n key ≡ take len (drop (located_of image s n key).place image)
-  lent_is = ap (part_at image (located_of image s n key).place) q
+  pub lent_is : value_of image s n key ≡ take len (drop (place_of (located_of image s n key)) image)
+  lent_is = ap (part_at image (place_of (located_of image s n key))) q
 
   -- it is the value of the record that get finds
   lent_value : value_of image s n key ≡ value_in (region_of s image l.region) l.rec
@@ -61,7 +61,7 @@ module _ (image : List ℕ) (s n key : ℕ) {len : ℕ} (q : companion_of image 
       ∙ sym (value_place image s l.region l.rec l.held.found.least l.held.found.fits)
 
   pub lent_length : length (value_of image s n key) ≡ len
-  lent_length = ap length lent_is ∙ length-take-le len (drop (located_of image s n key).place image) (omega (arith, l.inside, length-drop (located_of image s n key).place image))
+  lent_length = ap length lent_is ∙ length-take-le len (drop (place_of (located_of image s n key)) image) (omega (arith, l.inside, length-drop (place_of (located_of image s n key)) image))
 
   -- it is what get copies into a buffer long enough
   pub lent_got : (buffer : List ℕ) → len ≤ length buffer → get_of image s n key buffer ≡ record { answer = Complete len; buffer = value_of image s n key ++ drop len buffer }
@@ -78,16 +78,16 @@ unfolding get_of located_of
 got_answer image s n key buffer = go (hit_of image s n key) refl
   where
     short : (r : ℕ) (x : Record) → x.len ≤ 4095 → (b : Bool) → ltb (length buffer) (value_length x) ≡ b
-        → (read_answer (region_of s image r) x (length buffer) ≡ (located_by s image (Hit.Live r x)).answer) ⊎ ((len : ℕ) × ((read_answer (region_of s image r) x (length buffer) ≡ Refused (Refusal.BufferTooSmall len)) × (length buffer < len) × (len ≤ 4080)))
+        → (read_answer (region_of s image r) x (length buffer) ≡ answer_of (located_by s image (Hit.Live r x))) ⊎ ((len : ℕ) × ((read_answer (region_of s image r) x (length buffer) ≡ Refused (Refusal.BufferTooSmall len)) × (length buffer < len) × (len ≤ 4080)))
     short r x m true t = inr (value_length x, (rw t, ltb-true _ _ t, omega arith))
     short r x m false t = inl (rw t (by_sum (sound_in (region_of s image r) x) refl))
       where
-        by_sum : (b : Bool) → sound_in (region_of s image r) x ≡ b → cond (sound_in (region_of s image r) x) (Complete (value_length x)) (Refused Refusal.InvalidCheckSum) ≡ (located_by s image (Hit.Live r x)).answer
+        by_sum : (b : Bool) → sound_in (region_of s image r) x ≡ b → cond (sound_in (region_of s image r) x) (Complete (value_length x)) (Refused Refusal.InvalidCheckSum) ≡ answer_of (located_by s image (Hit.Live r x))
         by_sum true e = rw e
         by_sum false e = rw e
 
     go : (hit : Hit) → hit_of image s n key ≡ hit
-        → ((got_by s image buffer (hit_of image s n key)).answer ≡ (located_by s image (hit_of image s n key)).answer) ⊎ ((len : ℕ) × (((got_by s image buffer (hit_of image s n key)).answer ≡ Refused (Refusal.BufferTooSmall len)) × (length buffer < len) × (len ≤ 4080)))
+        → ((got_by s image buffer (hit_of image s n key)).answer ≡ answer_of (located_by s image (hit_of image s n key))) ⊎ ((len : ℕ) × (((got_by s image buffer (hit_of image s n key)).answer ≡ Refused (Refusal.BufferTooSmall len)) × (length buffer < len) × (len ≤ 4080)))
     go (Hit.Refused w) e = inl (rw e)
     go (Hit.Live r x) e = rw e (short r x (held image s n key r x e).found.short (ltb (length buffer) (value_length x)) refl)
 
@@ -103,17 +103,17 @@ not_odd_fault : (f : Fault) → odd (Refused (refusal_of f)) ≡ []
 not_odd_fault UnsupportedVersion = refl
 not_odd_fault CorruptData = refl
 
-not_odd_looked : (s : ℕ) (image : List ℕ) (looked : Looked) → odd (located_by s image (hit_by looked)).answer ≡ []
+not_odd_looked : (s : ℕ) (image : List ℕ) (looked : Looked) → odd (answer_of (located_by s image (hit_by looked))) ≡ []
 not_odd_looked s image (Looked.Live r x) = go (sound_in (region_of s image r) x) refl
   where
-    go : (b : Bool) → sound_in (region_of s image r) x ≡ b → odd (located_by s image (Hit.Live r x)).answer ≡ []
+    go : (b : Bool) → sound_in (region_of s image r) x ≡ b → odd (answer_of (located_by s image (Hit.Live r x))) ≡ []
     go true e = rw e
     go false e = rw e
 not_odd_looked s image (Looked.Bad f p) = not_odd_fault f
 not_odd_looked s image (Looked.Through seen) = refl
 
 not_odd_after : (image : List ℕ) (s n key : ℕ) (a b c : Bool)
-    → odd (located_by s image (hit_after image s n key (cond (not a) (Check.Refused Refusal.BadGeometry) (cond (not b) (Check.Refused Refusal.BadKey) (cond c (Check.Refused Refusal.ObjectTooLarge) Check.Fine))))).answer ≡ []
+    → odd (answer_of (located_by s image (hit_after image s n key (cond (not a) (Check.Refused Refusal.BadGeometry) (cond (not b) (Check.Refused Refusal.BadKey) (cond c (Check.Refused Refusal.ObjectTooLarge) Check.Fine)))))) ≡ []
 not_odd_after image s n key false b c = refl
 not_odd_after image s n key true false c = refl
 not_odd_after image s n key true true true = refl

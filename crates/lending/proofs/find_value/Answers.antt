@@ -39,7 +39,7 @@ pub returns-in-Refused : goal.returns-in-Refused
 unfolding located_of
 returns-in-Refused c =
     let a = c.args in
-    c.nowhere.ensures ∙ ap (located_by a.s a.image.now) (sym c.in-Refused.is ∙ c.find_key-hit.ensures)
+    ap (located_by a.s a.image.now) (sym c.in-Refused.is ∙ c.find_key-hit.ensures)
 
 -- src/lib.rt:45:1
 pub returns-in-Live : goal.returns-in-Live

@@ -9,7 +9,7 @@ use Rattle.lending.proofs.locate.Goals as goal
 pub returns-then-not-is_sound : goal.returns-then-not-is_sound
 returns-then-not-is_sound c =
     let a = c.args in
-    c.nowhere.ensures ∙ wrong_sum a.region.now a.start a.rec (sym c.is_sound.ensures ∙ not-true _ c.if-not-is_sound.true-raw)
+    wrong_sum a.region.now a.start a.rec (sym c.is_sound.ensures ∙ not-true _ c.if-not-is_sound.true-raw)
 
 -- src/lib.rt:29:1
 pub returns : goal.returns
