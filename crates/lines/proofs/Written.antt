@@ -5,16 +5,18 @@ use native.Mathlib.Nat.{one-le-pow, pow-le-pow_right}
 use native.Mathlib.Omega.{arith}
 use mathlib.Core.Bool.{Bool, true, false, cond}
 use mathlib.Core.Path.{◌≡◌, refl, sym, ◌∙◌, ap, subst}
-use mathlib.Core.List.{List, [], ◌∷◌, ◌++◌}
+use mathlib.Core.List.{List, [], ◌∷◌, ◌++◌, append_assoc}
 use lib.Dec.{ltb, leb}
-use lib.ListN.{length, take, set, length-append}
-use lib.Seq.{sets}
+use lib.ListN.{length, take, length-append}
+use lib.Seq.{sets, length-sets}
 use borrow.Author.Tests.{ltb-true, ltb-false, leb-true, leb-false, lt-ltb}
 use Rattle.io.specs.Digits.{last_digits, hex_digit_ascii, IsDigitCount}
 use Rattle.chip.proofs.Lists.{sets-append}
 use Rattle.format.specs.declared.Record.{Record}
 use Rattle.format.specs.Layout.{live}
 use Rattle.region.specs.Walk.{value_length}
+use Rattle.lines.specs.declared.Page.{Page}
+use Rattle.lines.specs.Pages.{HasRoom, Puts}
 use Rattle.lines.specs.Text.{decimal_in, decimal, field, state, key_field, line_of, bad_line}
 
 -- Digits.
@@ -95,14 +97,14 @@ length-state x = go (live x)
     go true = refl
     go false = refl
 
--- Bytes that are put: what the buffer holds then, and the place behind them.
-abbrev pub Put : List ℕ → ℕ → List ℕ → List ℕ → ℕ → Type 0
-Put l at b l' r = (l' ≡ sets l at b) × (r ≡ at + length b)
+-- One run of bytes behind the other is one run.
+pub put_more : (p q r : Page) (b c : List ℕ) → Puts p b q → Puts q c r → Puts p (b ++ c) r
+put_more p q r b c x y =
+    (y.0 ∙ x.0, y.1 ∙ (λ i. sets (x.1 i) (x.2 i) c) ∙ sym (sets-append p.out.now p.at b c), omega (arith, x.2, y.2, length-append b c))
 
--- one run of bytes behind the other is one run
-pub put_more : (l l₁ l₂ b c : List ℕ) (at r₁ r₂ : ℕ) → Put l at b l₁ r₁ → Put l₁ r₁ c l₂ r₂ → Put l at (b ++ c) l₂ r₂
-put_more l l₁ l₂ b c at r₁ r₂ p q =
-    (q.0 ∙ (λ i. sets (p.0 i) (p.1 i) c) ∙ sym (sets-append l at b c), omega (arith, p.1, q.1, length-append b c))
+-- What room is left behind them.
+pub room_left : (p q : Page) (b : List ℕ) (m k : ℕ) → Puts p b q → HasRoom p m → length b + k ≤ m → HasRoom q k
+room_left p q b m k x h l = omega (arith, x.2, ap length x.1, length-sets p.out.now p.at b, h, l)
 
 -- a line has 40 bytes at most, a bad place's 16
 pub short_line : (r : ℕ) (x : Record) → r < 100000 → x.at < 100000 → x.len < 100000 → length (line_of r x) ≤ 40
@@ -116,39 +118,31 @@ short_bad r o h k = simp length-append (omega (arith, short_decimal r h, short_d
 
 -- The functions' own: digits of a field, a record's line and a bad place's.
 
-pub ended : (l l₁ b : List ℕ) (at r end : ℕ) → Put l at b l₁ r → Put l at (b ++ (end ∷ [])) (set l₁ r end) (r + 1)
-ended l l₁ b at r end p =
-    (ap (λ (m : List ℕ). set m r end) p.0 ∙ ap (λ (n : ℕ). set (sets l at b) n end) p.1 ∙ sym (sets-append l at b (end ∷ [])), omega (arith, p.1, length-append b (end ∷ [])))
+pub counted : (p q : Page) (n k end : ℕ) (text : List ℕ) → IsDigitCount 10 1 n k → take k text ≡ last_digits 10 k n → Puts p (take k text ++ (end ∷ [])) q
+    → Puts p (field n end) q
+counted p q n k end text f e x = subst (λ (b : List ℕ). Puts p (b ++ (end ∷ [])) q) (e ∙ decimal_digits k n f) x
 
-pub counted : (l l₁ : List ℕ) (at r n k end : ℕ) (text : List ℕ) → IsDigitCount 10 1 n k → take k text ≡ last_digits 10 k n → Put l at (take k text ++ (end ∷ [])) l₁ r
-    → Put l at (field n end) l₁ r
-counted l l₁ at r n k end text f e p = subst (λ (b : List ℕ). Put l at (b ++ (end ∷ [])) l₁ r) (e ∙ decimal_digits k n f) p
-
-pub keyed : (l l₁ : List ℕ) (at r key k : ℕ) (text : List ℕ) → key < 18446744073709551616 → IsDigitCount 16 16 key k → take k text ≡ last_digits 16 k key
-    → Put l at (take k text ++ (32 ∷ [])) l₁ r → Put l at (key_field key) l₁ r
-keyed l l₁ at r key k text h f e p =
+pub keyed : (p q : Page) (key k : ℕ) (text : List ℕ) → key < 18446744073709551616 → IsDigitCount 16 16 key k → take k text ≡ last_digits 16 k key
+    → Puts p (take k text ++ (32 ∷ [])) q → Puts p (key_field key) q
+keyed p q key k text h f e x =
     let z : k ≡ 16 = sixteen key k h f in
-    subst (λ (b : List ℕ). Put l at (b ++ (32 ∷ [])) l₁ r) (e ∙ ap (λ (m : ℕ). last_digits 16 m key) z) p
+    subst (λ (b : List ℕ). Puts p (b ++ (32 ∷ [])) q) (e ∙ ap (λ (m : ℕ). last_digits 16 m key) z) x
 
-pub lined : (l l₁ l₂ l₃ l₄ l₅ : List ℕ) (at r₁ r₂ r₃ r₄ r₅ region : ℕ) (x : Record)
-    → Put l at (field region 32) l₁ r₁ → Put l₁ r₁ (field x.at 32) l₂ r₂ → Put l₂ r₂ (state x) l₃ r₃ → Put l₃ r₃ (key_field x.key) l₄ r₄
-    → Put l₄ r₄ (field (x.len - 15) 10) l₅ r₅ → Put l at (line_of region x) l₅ r₅
+pub short_place : (r o end : ℕ) → r < 100000 → o < 100000 → length (field r 32 ++ field o end) ≤ 12
+short_place r o end h k = omega (arith, length-append (field r 32) (field o end), short_field r 32 h, short_field o end k)
+
+pub lined : (p p₁ p₂ p₃ p₄ : Page) (region : ℕ) (x : Record)
+    → Puts p (field region 32 ++ field x.at 32) p₁ → Puts p₁ (state x) p₂ → Puts p₂ (key_field x.key) p₃ → Puts p₃ (field (x.len - 15) 10) p₄
+    → Puts p (line_of region x) p₄
 unfolding line_of
-lined l l₁ l₂ l₃ l₄ l₅ at r₁ r₂ r₃ r₄ r₅ region x a b c d e =
+lined p p₁ p₂ p₃ p₄ region x a b c d =
     let value = field (value_length x) 10 in
     let key = key_field x.key in
     let behind = state x ++ (key ++ value) in
-    put_more l l₁ l₅ (field region 32) (field x.at 32 ++ behind) at r₁ r₅ a
-    (put_more l₁ l₂ l₅ (field x.at 32) behind r₁ r₂ r₅ b
-    (put_more l₂ l₃ l₅ (state x) (key ++ value) r₂ r₃ r₅ c (put_more l₃ l₄ l₅ key value r₃ r₄ r₅ d e)))
+    subst (λ (t : List ℕ). Puts p t p₄) (append_assoc (field region 32) (field x.at 32) behind)
+    (put_more p p₁ p₄ (field region 32 ++ field x.at 32) behind a (put_more p₁ p₂ p₄ (state x) (key ++ value) b (put_more p₂ p₃ p₄ key value c d)))
 
-pub bad_lined : (l l₁ l₂ l₃ : List ℕ) (at r₁ r₂ r₃ region place : ℕ)
-    → Put l at (98 ∷ 97 ∷ 100 ∷ 32 ∷ []) l₁ r₁ → Put l₁ r₁ (field region 32) l₂ r₂ → Put l₂ r₂ (field place 10) l₃ r₃ → Put l at (bad_line region place) l₃ r₃
+pub bad_lined : (p p₁ p₂ : Page) (region place : ℕ)
+    → Puts p (98 ∷ 97 ∷ 100 ∷ 32 ∷ []) p₁ → Puts p₁ (field region 32 ++ field place 10) p₂ → Puts p (bad_line region place) p₂
 unfolding bad_line
-bad_lined l l₁ l₂ l₃ at r₁ r₂ r₃ region place a b c =
-    put_more l l₁ l₃ (98 ∷ 97 ∷ 100 ∷ 32 ∷ []) (field region 32 ++ field place 10) at r₁ r₃ a
-    (put_more l₁ l₂ l₃ (field region 32) (field place 10) r₁ r₂ r₃ b c)
-
-pub stated : (b : Bool) (l l₁ : List ℕ) (at r : ℕ) (x : Record) → live x ≡ b → Put l at (cond b (108 ∷ 105 ∷ 118 ∷ 101 ∷ 32 ∷ []) (100 ∷ 101 ∷ 97 ∷ 100 ∷ 32 ∷ [])) l₁ r
-    → Put l at (state x) l₁ r
-stated b l l₁ at r x e p = rw e p
+bad_lined p p₁ p₂ region place a b = put_more p p₁ p₂ (98 ∷ 97 ∷ 100 ∷ 32 ∷ []) (field region 32 ++ field place 10) a b

@@ -7,24 +7,19 @@ ghost use Rattle.io.specs.Counts.{IsPrefixLen};
 ghost use Rattle.listing.specs.Listing.{most_read, most_text};
 
 fn main() {
-    let mut input = room();
-    let mut text = page();
+    // An image of 65,536 bytes and its first line, and bytes that are too many. An input that fills the room is refused, whatever follows.
+    let mut input = room::<65600>();
+    // The text of any input.
+    let mut text = room::<180224>();
     let len = read_in(&mut input);
     show(&input[..len], &mut text);
 }
 
-// Room for an image of 65,536 bytes and its first line, and for bytes that are too many. An input that fills it is refused, whatever follows.
-fn room() -> [u8; 65600]
-    ensures { 65600 ≡ length result }
+// Room for so many bytes.
+fn room<const N: usize>() -> [u8; N]
+    ensures { N ≡ length result }
 {
-    [0; 65600]
-}
-
-// Room for the text of any input.
-fn page() -> [u8; 180224]
-    ensures { 180224 ≡ length result }
-{
-    [0; 180224]
+    [0; N]
 }
 
 // A shorter buffer would cut off an input that is to be listed, and another would be listed in its place, or none.

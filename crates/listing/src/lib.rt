@@ -2,52 +2,40 @@
 
 #![tactic(auto)]
 
-ghost use Rattle.std.specs.Prelude.{◌≡◌, ◌+◌, ◌*◌, ◌≤◌, length};
-ghost use Rattle.std.proofs.lemmas.List.Edits.{sets};
+ghost use Rattle.std.specs.Prelude.{◌≡◌, ◌*◌, ◌≤◌, length};
 ghost use Rattle.chip.specs.Geometry.{Fits};
 ghost use Rattle.entries.specs.Inventory.{inventory};
 ghost use Rattle.intake.specs.Intake.{most_image};
+ghost use Rattle.lines.specs.Pages.{Puts};
 ghost use Rattle.listing.specs.Listing.{text_of, most_text, filled, text_length};
 
-use entries::Entry;
+use entries::{Entry, Place, Shown};
 use intake::Chip;
+use lines::Page;
 
 // R16.10: a buffer of so many bytes takes the text of any input.
 pub const MOST_TEXT: usize = 180224;
 
 // The lines of a chip's records behind the header line. One pass: each call looks at one place, and says where the next is.
-fn list_from(image: &[u8], s: usize, n: usize, out: &mut [u8], at: usize) -> usize
-    requires { (Fits image.now s n) × (n * s ≤ most_image) × (at ≤ 29) × (most_text ≤ length out.old) }
-    ensures { (out.new ≡ sets out.old at (text_of (inventory image.now s n))) × (result ≡ at + length (text_of (inventory image.now s n))) }
+fn list_from(image: &[u8], s: usize, n: usize, page: &mut Page)
+    requires { (Fits image.now s n) × (n * s ≤ most_image) × (page.old.at ≤ 29) × (most_text ≤ length page.old.out.now) }
+    ensures { Puts page.old (text_of (inventory image.now s n)) page.new }
 {
-    let mut region: usize = 0;
-    let mut place: usize = 0;
-    let mut end = at;
+    let mut here = Place { region: 0, at: 0 };
     loop {
-        let shown = entries::record_at(image, s, n, region, place);
-        let entry = shown.entry;
+        let Shown { entry, next } = entries::record_at(image, s, n, here.region, here.at);
         match entry {
-            Entry::Stands { rec, sound: _ } => {
-                end = lines::put_line(out, end, region, rec);
-                region = shown.next.region;
-                place = shown.next.at;
+            Entry::Stands { rec, .. } => {
+                page.put_line(here.region, rec);
+                here = next;
             }
-            Entry::Ends => {
-                region = shown.next.region;
-                place = shown.next.at;
-            }
+            Entry::Ends => here = next,
             // A bad place ends the list: nothing is behind it, as nothing is behind the last region.
             Entry::Bad(_) => {
-                end = lines::put_bad(out, end, region, place);
-                region = n;
-                place = 0;
+                page.put_bad(here.region, here.at);
+                here = Place { region: n, at: 0 };
             }
-            Entry::Over => {
-                return end;
-            }
-            Entry::Refused(_) => {
-                return end;
-            }
+            Entry::Over | Entry::Refused(_) => return,
         }
     }
 }
@@ -59,9 +47,12 @@ pub fn list(input: &[u8], out: &mut [u8]) -> usize
     if out.len() < MOST_TEXT {
         return 0;
     }
+    let mut page = Page::new(out);
     let Some(Chip { s, n, start }) = intake::take_in(input) else {
-        return lines::put_refused(out, 0);
+        page.put_refused();
+        return page.at;
     };
-    let at = lines::put_header(out, 0);
-    list_from(&input[start..], s, n, out, at)
+    page.put_header();
+    list_from(&input[start..], s, n, &mut page);
+    page.at
 }

@@ -5,7 +5,7 @@ use Rattle.listing.proofs.Listed.{Left, ahead}
 use Rattle.listing.proofs.list_from.Given as goal
 
 abbrev pub invariant-loop-rec : goal.invariant-loop-rec
-invariant-loop-rec l = Left l.image l.s l.n l.initial.out l.at l.out l.region l.place l.end
+invariant-loop-rec l = Left l.image l.s l.n l.initial.page l.page l.here
 
 abbrev pub decreases-loop-rec : goal.decreases-loop-rec
-decreases-loop-rec l = ahead l.s l.n l.region l.place
+decreases-loop-rec l = ahead l.s l.n l.here.region l.here.at
