@@ -1,5 +1,5 @@
 -- The worked examples R15.1 to R15.10, as the store's definitions compute them and as the rules state them. S 64, N 4, blank at first.
-use Rattle.std.specs.Prelude.{ℕ, ◌+◌, ◌*◌, List, [], ◌∷◌, ◌++◌, take, drop, set, replicate}
+use Rattle.std.specs.Prelude.{ℕ, ◌+◌, ◌*◌, List, [], ◌∷◌, ◌++◌, take, drop, set, replicate, Result, Err, Ok}
 use Rattle.chip.specs.Chip.{written, erased}
 use Rattle.probe.specs.Probe.{probes}
 use Rattle.format.specs.declared.Removal.{Removal}
@@ -11,6 +11,7 @@ use Rattle.plans.specs.Answers.{refusal, values}
 use Rattle.store.specs.Read.{Got, get_of}
 use Rattle.store.specs.Write.{Done, append_of, remove_of}
 use Rattle.store.specs.Collect.{collect_of}
+use Rattle.refusals.specs.declared.Refusal.{Refusal}
 
 -- R15.1 to R15.10: a line of the table: item k is R15.k, what the definitions compute, and what the rule states. Where an answer is among them
 -- it comes first, by its number (0 where nothing is refused) and what it carries; the bytes follow.
@@ -36,9 +37,9 @@ abbrev pub bytes_from : ℕ → ℕ → List ℕ → List ℕ
 bytes_from place count image = take count (drop place image)
 
 -- R15.5: the image place of the live record that was found; nothing where none was.
-abbrev pub place_of : Hit → List ℕ
-place_of (Hit.Live r x) = (r * S + x.at) ∷ []
-place_of (Hit.Refused w) = []
+abbrev pub place_of : Result Hit Refusal → List ℕ
+place_of (Ok h) = (h.region * S + h.rec.at) ∷ []
+place_of (Err w) = []
 
 -- The calls, at this S and N.
 

@@ -1,7 +1,6 @@
 // Keys that are looked up, by the old crate's rule and in our store.
 use crate::flash::Image;
 use crate::{flash, old_lookup, print};
-use lookup::Hit;
 use plans::Answer;
 
 // More bytes than any value of the day has.
@@ -93,11 +92,7 @@ fn print_bytes(answer: Answer, buffer: &[u8]) {
 
 // Whether a live record of the key stands in the image.
 pub fn is_live(image: &Image, key: u64) -> bool {
-    let hit = lookup::find_key(image, flash::S, flash::N, key);
-    match hit {
-        Hit::Live { region: _, rec: _ } => true,
-        Hit::Refused(_) => false,
-    }
+    lookup::find_key(image, flash::S, flash::N, key).is_ok()
 }
 
 // Whether get answered just this value.

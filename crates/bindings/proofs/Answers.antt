@@ -7,6 +7,7 @@ use mathlib.Core.Bool.{true}
 use mathlib.Core.List.{List, ◌++◌}
 use lib.ListN.{length, take, drop, length-take, length-drop}
 use borrow.Author.Tests.{lt-ltb, le-ltb}
+use Rattle.std.specs.Prelude.{Ok}
 use Rattle.chip.specs.Geometry.{Fits, region_of}
 use Rattle.chip.proofs.Image.{fits_geometry}
 use Rattle.probe.specs.Probe.{allowed_key, probes}
@@ -14,12 +15,10 @@ use Rattle.format.specs.declared.Record.{Record}
 use Rattle.format.specs.Layout.{record_length, check_sum_fits}
 use Rattle.region.specs.Walk.{bytes_in, value_length, value_in}
 use Rattle.refusals.specs.declared.Refusal.{Refusal}
-use Rattle.refusals.specs.declared.Check.{Check}
 use Rattle.lookup.specs.declared.Need.{Need}
 use Rattle.lookup.specs.declared.Looked.{Looked}
-use Rattle.lookup.specs.declared.Hit.{Hit}
 use Rattle.refusals.specs.Refusals.{first_refusal}
-use Rattle.lookup.specs.Turns.{lookup_in, hit_by, hit_of}
+use Rattle.lookup.specs.Turns.{lookup_in, hit_by, hit_of, hits}
 use Rattle.lookup.proofs.Ends.{held}
 use Rattle.plans.specs.declared.Answer.TheVariants.{Complete, Refused}
 use Rattle.plans.specs.Writes.{applied}
@@ -29,7 +28,7 @@ use Rattle.bindings.specs.WellFormed.{WellFormed, Bound}
 use Rattle.bindings.proofs.Lookups.{never_bad, found_live, is_found}
 
 -- nothing is refused before reading
-pub fine_first : (image : List ℕ) (s n key len : ℕ) → Fits image s n → allowed_key key ≡ true → len ≤ 4079 → first_refusal image s n key len ≡ Check.Fine
+pub fine_first : (image : List ℕ) (s n key len : ℕ) → Fits image s n → allowed_key key ≡ true → len ≤ 4079 → first_refusal image s n key len ≡ Ok tt
 unfolding first_refusal
 fine_first image s n key len f k l = rw (fits_geometry f, k, le-ltb 4079 len l)
 
@@ -39,7 +38,7 @@ value_long region x l f = simp (length-take, length-drop) (omega arith)
 
 module _ {s n : ℕ} {image : List ℕ} (w : WellFormed s n image) (key : ℕ) where
   -- a bound key is hit
-  pub hit_bound : {value : List ℕ} (b : Bound s n image key value) → hit_of image s n key ≡ Hit.Live b.region b.rec
+  pub hit_bound : {value : List ℕ} (b : Bound s n image key value) → hit_of image s n key ≡ hits b.region b.rec
   unfolding hit_of
   hit_bound b =
       let k : allowed_key key ≡ true = subst (λ (t : ℕ). allowed_key t ≡ true) b.key_is (w.keys b.region b.rec b.held) in

@@ -5,6 +5,7 @@ use mathlib.Core.Path.{◌≡◌, refl, sym}
 use mathlib.Core.Bool.{true, false}
 use mathlib.Core.List.{List}
 use lib.ListN.{length}
+use Rattle.std.specs.Prelude.{Result, Ok, Err}
 use Rattle.chip.specs.Chip.{written}
 use Rattle.chip.specs.Geometry.{Fits}
 use Rattle.probe.specs.Probe.{allowed_key, probes}
@@ -14,7 +15,6 @@ use Rattle.format.specs.declared.Fault.{Fault}
 use Rattle.format.specs.declared.Removal.{Removal}
 use Rattle.format.specs.Layout.{record_length, record_bytes, kill_place, kill_bytes}
 use Rattle.refusals.specs.declared.Refusal.{Refusal}
-use Rattle.refusals.specs.declared.Check.{Check}
 use Rattle.lookup.specs.declared.Need.{Need}
 use Rattle.lookup.specs.declared.Room.{Room}
 use Rattle.lookup.specs.declared.Seen.{Seen}
@@ -22,7 +22,7 @@ use Rattle.lookup.specs.declared.Looked.{Looked}
 use Rattle.lookup.specs.declared.Hit.{Hit}
 use Rattle.refusals.specs.Refusals.{refusal_of, first_refusal}
 use Rattle.lookup.specs.Words.{first_room}
-use Rattle.lookup.specs.Turns.{lookup_in, hit_by, hit_after, hit_of}
+use Rattle.lookup.specs.Turns.{lookup_in, hit_by, hit_after, hit_of, hits}
 use Rattle.lookup.proofs.Scan.{fine, gathered_first, room_from, Roomy}
 use Rattle.plans.specs.declared.Answer.TheVariants.{Written}
 use Rattle.plans.specs.Writes.{applied}
@@ -35,15 +35,15 @@ pub record Allowed (image : List ℕ) (s n key len : ℕ) : Type 0 where
   pub key_is : allowed_key key ≡ true
   pub size : len ≤ 4079
 
-pub allowed : (image : List ℕ) (s n key len : ℕ) → first_refusal image s n key len ≡ Check.Fine → Allowed image s n key len
+pub allowed : (image : List ℕ) (s n key len : ℕ) → first_refusal image s n key len ≡ Ok tt → Allowed image s n key len
 allowed image s n key len h = let (f, k, l) = fine image s n key len h in record { fits = f; key_is = k; size = l }
 
 -- The search of get and of the removals.
-pub data Hitting (image : List ℕ) (s n key : ℕ) : Hit → Type 0 where
-  early : (w : Refusal) → first_refusal image s n key 0 ≡ Check.Refused w → Hitting image s n key (Hit.Refused w)
-  bad : (f : Fault) (p : ℕ) → Allowed image s n key 0 → lookup_in key Need.Nothing s image (probes key n) ≡ Looked.Bad f p → Hitting image s n key (Hit.Refused (refusal_of f))
-  missing : (seen : Seen) → Allowed image s n key 0 → lookup_in key Need.Nothing s image (probes key n) ≡ Looked.Through seen → Hitting image s n key (Hit.Refused Refusal.KeyNotFound)
-  hit : (r : ℕ) (x : Record) → Allowed image s n key 0 → lookup_in key Need.Nothing s image (probes key n) ≡ Looked.Live r x → Hitting image s n key (Hit.Live r x)
+pub data Hitting (image : List ℕ) (s n key : ℕ) : Result Hit Refusal → Type 0 where
+  early : (w : Refusal) → first_refusal image s n key 0 ≡ Err w → Hitting image s n key (Err w)
+  bad : (f : Fault) (p : ℕ) → Allowed image s n key 0 → lookup_in key Need.Nothing s image (probes key n) ≡ Looked.Bad f p → Hitting image s n key (Err (refusal_of f))
+  missing : (seen : Seen) → Allowed image s n key 0 → lookup_in key Need.Nothing s image (probes key n) ≡ Looked.Through seen → Hitting image s n key (Err Refusal.KeyNotFound)
+  hit : (r : ℕ) (x : Record) → Allowed image s n key 0 → lookup_in key Need.Nothing s image (probes key n) ≡ Looked.Live r x → Hitting image s n key (hits r x)
 
 pub hitting : (image : List ℕ) (s n key : ℕ) → Hitting image s n key (hit_of image s n key)
 unfolding hit_of
@@ -54,23 +54,23 @@ hitting image s n key = check (first_refusal image s n key 0) refl
     look a (Looked.Bad f p) e = bad f p a e
     look a (Looked.Through seen) e = missing seen a e
 
-    check : (c : Check) → first_refusal image s n key 0 ≡ c → Hitting image s n key (hit_after image s n key c)
-    check (Check.Refused w) e = early w e
-    check Check.Fine e = look (allowed image s n key 0 e) (lookup_in key Need.Nothing s image (probes key n)) refl
+    check : (c : Result (Unit {0}) Refusal) → first_refusal image s n key 0 ≡ c → Hitting image s n key (hit_after image s n key c)
+    check (Err w) e = early w e
+    check (Ok u) e = look (allowed image s n key 0 e) (lookup_in key Need.Nothing s image (probes key n)) refl
 
 -- A removal: what it leaves where the key's live record was found.
 abbrev pub removed : Removal → ℕ → List ℕ → ℕ → Record → List ℕ
 removed how s image r x = written image (r * s + kill_place how x) (kill_bytes how x)
 
 pub data Removing (how : Removal) (image : List ℕ) (s n key : ℕ) : Done → Type 0 where
-  not_hit : (w : Refusal) → Hitting image s n key (Hit.Refused w) → Removing how image s n key (refused w image)
+  not_hit : (w : Refusal) → Hitting image s n key (Err w) → Removing how image s n key (refused w image)
   removes : (r : ℕ) (x : Record) → lookup_in key Need.Nothing s image (probes key n) ≡ Looked.Live r x
       → Removing how image s n key (record { answer = Written; image = removed how s image r x })
 
-removing_by : (how : Removal) (image : List ℕ) (s n key : ℕ) (t : Hit) → Hitting image s n key t → Removing how image s n key (remove_by how s image key t)
+removing_by : (how : Removal) (image : List ℕ) (s n key : ℕ) (t : Result Hit Refusal) → Hitting image s n key t → Removing how image s n key (remove_by how s image key t)
 unfolding applied
-removing_by how image s n key (Hit.Refused w) h = not_hit w h
-removing_by how image s n key (Hit.Live _ _) (hit r x a e) = removes r x e
+removing_by how image s n key (Err w) h = not_hit w h
+removing_by how image s n key (Ok _) (hit r x a e) = removes r x e
 
 pub removing : (how : Removal) (image : List ℕ) (s n key : ℕ) → Removing how image s n key (remove_of how image s n key)
 unfolding remove_of
@@ -78,7 +78,7 @@ removing how image s n key = removing_by how image s n key (hit_of image s n key
 
 -- Append.
 pub data Appending (image : List ℕ) (s n key : ℕ) (value : List ℕ) : Done → Type 0 where
-  early : (w : Refusal) → first_refusal image s n key (length value) ≡ Check.Refused w → Appending image s n key value (refused w image)
+  early : (w : Refusal) → first_refusal image s n key (length value) ≡ Err w → Appending image s n key value (refused w image)
   there : (r : ℕ) (x : Record) → Allowed image s n key (length value) → lookup_in key (Need.Room (record_length (length value))) s image (probes key n) ≡ Looked.Live r x
       → Appending image s n key value (refused Refusal.KeyAlreadyExists image)
   bad : (f : Fault) (p : ℕ) → Allowed image s n key (length value) → lookup_in key (Need.Room (record_length (length value))) s image (probes key n) ≡ Looked.Bad f p
@@ -112,6 +112,6 @@ module _ (image : List ℕ) (s n key : ℕ) (value : List ℕ) where
   unfolding append_of
   appending = check (first_refusal image s n key (length value)) refl
     where
-      check : (c : Check) → first_refusal image s n key (length value) ≡ c → Appending image s n key value (append_after image s n key value c)
-      check (Check.Refused w) e = early w e
-      check Check.Fine e = looking (allowed image s n key (length value) e) looked refl
+      check : (c : Result (Unit {0}) Refusal) → first_refusal image s n key (length value) ≡ c → Appending image s n key value (append_after image s n key value c)
+      check (Err w) e = early w e
+      check (Ok u) e = looking (allowed image s n key (length value) e) looked refl

@@ -7,6 +7,7 @@ use mathlib.Core.Bool.{Bool, true, false, not, cond, true≢false}
 use mathlib.Core.List.{List, []}
 use lib.Dec.{ltb}
 use lib.ListN.{length, drop}
+use Rattle.std.specs.Prelude.{Result, Ok, Err}
 use Rattle.chip.specs.Chip.{erased}
 use Rattle.chip.specs.Geometry.{geometry, region_of}
 use Rattle.chip.proofs.Laws.{blank-take}
@@ -16,7 +17,6 @@ use Rattle.format.specs.declared.Removal.{Removal}
 use Rattle.format.specs.Layout.{record_length, check_sum_fits}
 use Rattle.region.specs.Walk.{bytes_in, value_length}
 use Rattle.refusals.specs.declared.Refusal.{Refusal}
-use Rattle.refusals.specs.declared.Check.{Check}
 use Rattle.lookup.specs.declared.Need.{Need}
 use Rattle.lookup.specs.declared.Hit.{Hit}
 use Rattle.refusals.specs.Refusals.{number, first_refusal}
@@ -44,14 +44,14 @@ sane_at : (a : Answer) (k : ℕ) → refusal a ≡ k → (k ≡ 7 → ⊥) → (
 sane_at a k e x y z = record { version = λ q. x (sym e ∙ q); corrupt = λ q. y (sym e ∙ q); sum = λ q. z (sym e ∙ q) }
 
 -- what is refused before reading is refusal 1, 2 or 3
-first_number : (image : List ℕ) (s n key len : ℕ) (w : Refusal) → first_refusal image s n key len ≡ Check.Refused w → number w ≤ 3
+first_number : (image : List ℕ) (s n key len : ℕ) (w : Refusal) → first_refusal image s n key len ≡ Err w → number w ≤ 3
 unfolding first_refusal
 first_number image s n key len w = go (geometry image s n) (allowed_key key) (ltb 4079 len)
   where
-    is : (v : Refusal) → Check.Refused v ≡ Check.Refused w → number v ≤ 3 → number w ≤ 3
+    is : (v : Refusal) → ◌≡◌ {A = Result (Unit {0}) Refusal} (Err v) (Err w) → number v ≤ 3 → number w ≤ 3
     is v h l = let e : v ≡ w = cc in rw e at l
 
-    go : (a b c : Bool) → cond (not a) (Check.Refused Refusal.BadGeometry) (cond (not b) (Check.Refused Refusal.BadKey) (cond c (Check.Refused Refusal.ObjectTooLarge) Check.Fine)) ≡ Check.Refused w → number w ≤ 3
+    go : (a b c : Bool) → cond (not a) (Err Refusal.BadGeometry) (cond (not b) (Err Refusal.BadKey) (cond c (Err Refusal.ObjectTooLarge) (Ok (tt {0})))) ≡ Err w → number w ≤ 3
     go false b c h = is Refusal.BadGeometry h (omega arith)
     go true false c h = is Refusal.BadKey h (omega arith)
     go true true true h = is Refusal.ObjectTooLarge h (omega arith)
@@ -68,14 +68,14 @@ module _ {s n : ℕ} {image : List ℕ} (w : WellFormed s n image) where
       go true = sane_at _ 9 refl (λ q. omega arith) (λ q. omega arith) (λ q. omega arith)
       go false = sane_at _ 0 refl (λ q. omega arith) (λ q. omega arith) (λ q. omega arith)
 
-  miss_sane : (key : ℕ) (z : Refusal) → Hitting image s n key (Hit.Refused z) → Sane (Answer.Refused z)
+  miss_sane : (key : ℕ) (z : Refusal) → Hitting image s n key (Err z) → Sane (Answer.Refused z)
   miss_sane key _ (Hitting.early z e) = sane_early z (first_number image s n key 0 z e)
   miss_sane key z (Hitting.bad f p a e) = absurd (never_bad w key Need.Nothing f p e)
   miss_sane key z (Hitting.missing seen a e) = sane_at _ 4 refl (λ q. omega arith) (λ q. omega arith) (λ q. omega arith)
 
-  get_sane : (key : ℕ) (buffer : List ℕ) (t : Hit) → Hitting image s n key t → Sane (got_by s image buffer t).answer
-  get_sane key buffer (Hit.Refused z) h = miss_sane key z h
-  get_sane key buffer (Hit.Live _ _) (Hitting.hit r x a e) = read_sane (region_of s image r) x (length buffer) (w.sums r x (found_live w key Need.Nothing r x e).0)
+  get_sane : (key : ℕ) (buffer : List ℕ) (t : Result Hit Refusal) → Hitting image s n key t → Sane (got_by s image buffer t).answer
+  get_sane key buffer (Err z) h = miss_sane key z h
+  get_sane key buffer (Ok _) (Hitting.hit r x a e) = read_sane (region_of s image r) x (length buffer) (w.sums r x (found_live w key Need.Nothing r x e).0)
 
   append_sane : (key : ℕ) (value : List ℕ) (d : Done) → Appending image s n key value d → Sane d.answer
   append_sane key value d (Appending.early z e) = sane_early z (first_number image s n key (length value) z e)

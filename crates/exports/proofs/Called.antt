@@ -8,6 +8,7 @@ use mathlib.Core.List.{List}
 use mathlib.Core.Logic.{⊎_elim}
 use lib.Dec.{eqb}
 use borrow.Author.Tests.{eqb-true, eqb-false}
+use Rattle.std.specs.Prelude.{Option, Some, None}
 use Rattle.running.specs.declared.Op.{Op}
 use Rattle.running.specs.declared.Reply.{Reply}
 use Rattle.running.specs.declared.Request.{Request}
@@ -15,7 +16,6 @@ use Rattle.rule.specs.Rule.{rule}
 use Rattle.steps.specs.Step.{stepped, region_after, buffer_after}
 use Rattle.replies.specs.Answers.{request_numbers}
 use Rattle.operations.specs.declared.COperation.{COperation}
-use Rattle.operations.specs.declared.unpacks.KnownReply.{KnownReply}
 use Rattle.operations.specs.Unpacks.{KnownOp, unpacked, reply_number, known_reply}
 use Rattle.numbers.specs.declared.CStepped.{CStepped}
 use Rattle.numbers.specs.Packs.{few, packed}
@@ -34,7 +34,7 @@ module _ (o : COperation) (y : ℕ) (region value buffer : List ℕ) where
   -- What a step hands back, and what it leaves in region and buffer.
   pub data Called : CStepped → List ℕ → List ℕ → Type 0 where
     nothing : Misfits o y region value buffer → Called (bad_call o) region buffer
-    runs : (op : Op) (said : Reply) → Reads o op → known_reply y ≡ KnownReply.Known said
+    runs : (op : Op) (said : Reply) → Reads o op → known_reply y ≡ Some said
         → Called (packed_step (stepped op said region value buffer)) (region_after op said region value buffer) (buffer_after op said region value buffer)
 
   -- Numbers that stand for no operation say the end, or are those of none that keeps the rule.
@@ -52,11 +52,11 @@ module _ (o : COperation) (y : ℕ) (region value buffer : List ℕ) where
       same {t} {t'} {r} {r'} {b} {b'} (p, q, u) c =
           subst (λ (i : CStepped). Called i r b) (sym p) (subst (λ (i : List ℕ). Called t' i b) (sym q) (subst (λ (i : List ℕ). Called t' r' i) (sym u) c))
 
-      go : (k : KnownOp) (s : KnownReply) → unpacked o ≡ k → known_reply y ≡ s
+      go : (k : KnownOp) (s : Option Reply) → unpacked o ≡ k → known_reply y ≡ s
           → Called (step_numbers o y region value buffer) (step_region o y region value buffer) (step_buffer o y region value buffer)
       go KnownOp.Unknown s e f = same (no_op o y region value buffer e) (nothing (unknown e))
-      go (KnownOp.Known op) KnownReply.Unknown e f = same (no_reply o y region value buffer f) (nothing (Misfits.no_reply (omega (arith, no_reply_over y f))))
-      go (KnownOp.Known op) (KnownReply.Known said) e f = same (fit o y region value buffer op said e f) (runs op said (reads o op e) f)
+      go (KnownOp.Known op) None e f = same (no_reply o y region value buffer f) (nothing (Misfits.no_reply (omega (arith, no_reply_over y f))))
+      go (KnownOp.Known op) (Some said) e f = same (fit o y region value buffer op said e f) (runs op said (reads o op e) f)
 
   -- R6.11: its clauses for numbers that stand for an operation and a reply are those for the operation and the reply.
 
@@ -65,7 +65,7 @@ module _ (o : COperation) (y : ℕ) (region value buffer : List ℕ) where
   no_rule k h op' r left p =
       ⊎_elim (λ e. not_both k (ended_unknown o e)) (λ e. true≢false (sym r ∙ ap rule (one_op k e) ∙ h)) (stands_or_ended o op' r left p)
 
-  pub to_numbers : {op : Op} {said : Reply} → Reads o op → known_reply y ≡ KnownReply.Known said → Misfit op said region value buffer → Misfits o y region value buffer
+  pub to_numbers : {op : Op} {said : Reply} → Reads o op → known_reply y ≡ Some said → Misfit op said region value buffer → Misfits o y region value buffer
   to_numbers k f (Misfit.region_buffer h) = Misfits.region_buffer (λ e. h (e ∙ sym k.same_s))
   to_numbers k f (Misfit.value_length e h) = let (l, len) = lent_value k e in Misfits.value_length l (λ z. h (omega (arith, len)))
   to_numbers k f (Misfit.buffer_length e h) = let (l, len) = lent_buffer_lem k e in Misfits.buffer_length l (λ z. h (omega (arith, len)))
@@ -74,7 +74,7 @@ module _ (o : COperation) (y : ℕ) (region value buffer : List ℕ) where
   to_numbers k f (Misfit.after_the_end e h) = Misfits.after_the_end (omega (arith, answers_ended k e h))
   to_numbers k f (Misfit.rule_broken h) = Misfits.no_operation (no_rule k h)
 
-  pub of_numbers : {op : Op} {said : Reply} → Reads o op → known_reply y ≡ KnownReply.Known said → Misfits o y region value buffer → Misfit op said region value buffer
+  pub of_numbers : {op : Op} {said : Reply} → Reads o op → known_reply y ≡ Some said → Misfits o y region value buffer → Misfit op said region value buffer
   of_numbers k f (Misfits.region_buffer h) = Misfit.region_buffer (λ e. h (e ∙ k.same_s))
   of_numbers k f (Misfits.value_length e h) = Misfit.value_length (value_lent_lem k e) (λ z. h (omega arith))
   of_numbers k f (Misfits.buffer_length e h) = Misfit.buffer_length (buffer_lent_lem k e) (λ z. h (omega arith))

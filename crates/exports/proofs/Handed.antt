@@ -6,6 +6,7 @@ use mathlib.Core.Path.{◌≡◌, refl, sym, ◌∙◌, ap}
 use mathlib.Core.Bool.{Bool, true, false, true≢false}
 use mathlib.Core.List.{List}
 use lib.ListN.{length, take, drop}
+use Rattle.std.specs.Prelude.{Some}
 use Rattle.plans.specs.declared.Answer.{Answer}
 use Rattle.plans.specs.declared.Lent.{Lent}
 use Rattle.running.specs.declared.Op.{Op}
@@ -16,7 +17,6 @@ use Rattle.rule.specs.Rule.{rule}
 use Rattle.steps.specs.Step.{next_op, fits_here, stepped}
 use Rattle.replies.specs.Answers.{request_numbers}
 use Rattle.operations.specs.declared.COperation.{COperation}
-use Rattle.operations.specs.declared.unpacks.KnownReply.{KnownReply}
 use Rattle.operations.specs.Unpacks.{known_reply}
 use Rattle.numbers.specs.declared.CStepped.{CStepped}
 use Rattle.numbers.specs.Packs.{few, packed}
@@ -67,7 +67,7 @@ module _ (o : COperation) (y : ℕ) (region value buffer : List ℕ) where
     hands : (op : Op) (said : Reply) → Reads o op → rule (next_op op said region) ≡ true → few (next_op op said region).plan.edits ≡ true
         → Handed (packed_step (record { op = next_op op said region; request = request_of (next_op op said region) }))
 
-  fitting : (op : Op) (said : Reply) → Reads o op → known_reply y ≡ KnownReply.Known said → (t : Bool) → fits_here op said region value buffer ≡ t
+  fitting : (op : Op) (said : Reply) → Reads o op → known_reply y ≡ Some said → (t : Bool) → fits_here op said region value buffer ≡ t
       → Handed (packed_step (stepped op said region value buffer))
   unfolding stepped
   fitting op said k f true h = rw h (hands op said k (Steps.next_keeps op said region value buffer h) (next_few op said region k.few_left))

@@ -7,6 +7,7 @@ use mathlib.Core.Bool.{Bool, true, false, cond, ◌&&◌, true≢false}
 use mathlib.Core.Logic.{◌⊎◌, inl, inr}
 use lib.Dec.{eqb}
 use borrow.Author.Tests.{eqb-true, eqb-false}
+use Rattle.std.specs.Prelude.{Option, Some, None}
 use Rattle.chip.proofs.Image.{both}
 use Rattle.format.specs.declared.Removal.{Removal}
 use Rattle.lookup.specs.declared.Seen.{Seen}
@@ -26,7 +27,6 @@ use Rattle.running.specs.declared.Wait.{Wait}
 use Rattle.running.specs.declared.Request.{Request}
 use Rattle.running.specs.Waits.{wait_first, request_edit, request_for, request_of}
 use Rattle.operations.specs.declared.COperation.{COperation}
-use Rattle.operations.specs.declared.unpacks.KnownReply.{KnownReply}
 use Rattle.operations.specs.Unpacks.{KnownOp, lent_in, record_in, edits_in, aim_in, gathered_in, next_in, read_as, own_fresh, own_lent, own_next, standing, unpacked, reply_number, known_reply}
 use Rattle.rule.specs.Rule.{rule}
 use Rattle.numbers.specs.Packs.{few, over_after, over, packed}
@@ -235,9 +235,9 @@ stands_or_ended o op r h e = go (over op.plan) refl
 -- Replies: the number of the one that is said, and none over 3.
 
 -- What a number stands for.
-data Says (y : ℕ) : KnownReply → Type 0 where
-  says : (said : Reply) → y ≡ reply_number said → Says y (KnownReply.Known said)
-  silent : 3 < y → Says y KnownReply.Unknown
+data Says (y : ℕ) : Option Reply → Type 0 where
+  says : (said : Reply) → y ≡ reply_number said → Says y (Some said)
+  silent : 3 < y → Says y None
 
 said_by : (y : ℕ) → Says y (known_reply y)
 unfolding known_reply
@@ -245,7 +245,7 @@ said_by y = go (eqb y 0) (eqb y 1) (eqb y 2) (eqb y 3) refl refl refl refl
   where
     go : (a b c d : Bool) → eqb y 0 ≡ a → eqb y 1 ≡ b → eqb y 2 ≡ c → eqb y 3 ≡ d
         → Says y
-        (cond a (KnownReply.Known Reply.Begin) (cond b (KnownReply.Known Reply.Done) (cond c (KnownReply.Known Reply.NotReady) (cond d (KnownReply.Known Reply.Failed) KnownReply.Unknown))))
+        (cond a (Some Reply.Begin) (cond b (Some Reply.Done) (cond c (Some Reply.NotReady) (cond d (Some Reply.Failed) None))))
     go true b c d p q r t = says Reply.Begin (eqb-true y 0 p)
     go false true c d p q r t = says Reply.Done (eqb-true y 1 q)
     go false false true d p q r t = says Reply.NotReady (eqb-true y 2 r)
@@ -257,16 +257,16 @@ said_by y = go (eqb y 0) (eqb y 1) (eqb y 2) (eqb y 3) refl refl refl refl
         let n3 : y ≡ 3 → ⊥ = eqb-false y 3 t in
         silent (omega arith)
 
-pub replied : {y : ℕ} {said : Reply} → known_reply y ≡ KnownReply.Known said → y ≡ reply_number said
+pub replied : {y : ℕ} {said : Reply} → known_reply y ≡ Some said → y ≡ reply_number said
 replied {y} {said} e = go (subst (Says y) e (said_by y))
   where
-    go : Says y (KnownReply.Known said) → y ≡ reply_number said
+    go : Says y (Some said) → y ≡ reply_number said
     go (says said h) = h
 
-pub no_reply_over : (y : ℕ) → known_reply y ≡ KnownReply.Unknown → 3 < y
+pub no_reply_over : (y : ℕ) → known_reply y ≡ None → 3 < y
 no_reply_over y e = go (subst (Says y) e (said_by y))
   where
-    go : Says y KnownReply.Unknown → 3 < y
+    go : Says y None → 3 < y
     go (silent l) = l
 
 within : (said : Reply) → reply_number said ≤ 3
@@ -275,7 +275,7 @@ within Reply.Done = omega arith
 within Reply.NotReady = omega arith
 within Reply.Failed = omega arith
 
-pub too_high : {y : ℕ} {said : Reply} → known_reply y ≡ KnownReply.Known said → 3 < y → ⊥
+pub too_high : {y : ℕ} {said : Reply} → known_reply y ≡ Some said → 3 < y → ⊥
 too_high {y} {said} f l =
     let number : y ≡ reply_number said = replied f in
     omega (arith, within said)

@@ -6,13 +6,13 @@ use mathlib.Core.Path.{◌≡◌, refl, sym, ap}
 use mathlib.Core.Bool.{Bool, true, false, cond}
 use mathlib.Core.List.{List}
 use lib.ListN.{length}
+use Rattle.std.specs.Prelude.{Result, Err, Ok}
 use Rattle.chip.specs.Geometry.{region_of}
 use Rattle.format.specs.declared.Record.{Record}
 use Rattle.region.specs.Walk.{value_length}
 use Rattle.refusals.specs.declared.Refusal.{Refusal}
-use Rattle.std.specs.Prelude.{Ok, Err}
 use Rattle.lookup.specs.declared.Hit.{Hit}
-use Rattle.lookup.specs.Turns.{hit_of}
+use Rattle.lookup.specs.Turns.{hit_of, hits}
 use Rattle.lookup.proofs.Ends.{Held, held}
 use Rattle.plans.specs.declared.Answer.TheVariants.{Complete, Refused}
 use Rattle.entries.specs.Entries.{sound_in}
@@ -31,7 +31,7 @@ right_sum region start x e = rw e
 pub record Lent (image : List ℕ) (s n key len : ℕ) : Type 0 where
   pub region : ℕ
   pub rec : Record
-  pub hit : hit_of image s n key ≡ Hit.Live region rec
+  pub hit : hit_of image s n key ≡ hits region rec
   pub held : Held image s n key region rec
   pub right : sound_in (region_of s image region) rec ≡ true
   pub len_is : value_length rec ≡ len
@@ -46,7 +46,7 @@ pub lent : (image : List ℕ) (s n key len : ℕ) → companion_of image s n key
 unfolding located_of
 lent image s n key len q = go (hit_of image s n key) refl q
   where
-    found : (r : ℕ) (x : Record) → hit_of image s n key ≡ Hit.Live r x → (b : Bool) → sound_in (region_of s image r) x ≡ b
+    found : (r : ℕ) (x : Record) → hit_of image s n key ≡ hits r x → (b : Bool) → sound_in (region_of s image r) x ≡ b
         → answer_of (cond b (Ok (record { place = r * s + x.at + 11; len = value_length x })) (Err Refusal.InvalidCheckSum)) ≡ Complete len → Lent image s n key len
     found r x e false t q = absurd (refuses _ _ q)
     found r x e true t q =
@@ -65,9 +65,9 @@ lent image s n key len q = go (hit_of image s n key) refl q
           small = h.small;
         }
 
-    go : (hit : Hit) → hit_of image s n key ≡ hit → answer_of (located_by s image hit) ≡ Complete len → Lent image s n key len
-    go (Hit.Refused w) e q = absurd (refuses _ _ q)
-    go (Hit.Live r x) e q = found r x e (sound_in (region_of s image r) x) refl q
+    go : (hit : Result Hit Refusal) → hit_of image s n key ≡ hit → answer_of (located_by s image hit) ≡ Complete len → Lent image s n key len
+    go (Err w) e q = absurd (refuses _ _ q)
+    go (Ok h) e q = found h.region h.rec e (sound_in (region_of s image h.region) h.rec) refl q
 
 -- the part that is found lies in the image
 pub part_inside : (image : List ℕ) (s n key : ℕ) {part : Part} → Ok part ≡ located_of image s n key → (part.place + part.len ≤ length image) × (length image < 2 ^ 32)
@@ -85,6 +85,6 @@ refused_place image s n key w q = go (hit_of image s n key) q
     found r x true q = absurd (refuses _ _ (sym q))
     found r x false q = refl
 
-    go : (hit : Hit) → answer_of (located_by s image hit) ≡ Refused w → place_of (located_by s image hit) ≡ 0
-    go (Hit.Refused v) q = refl
-    go (Hit.Live r x) q = found r x (sound_in (region_of s image r) x) q
+    go : (hit : Result Hit Refusal) → answer_of (located_by s image hit) ≡ Refused w → place_of (located_by s image hit) ≡ 0
+    go (Err v) q = refl
+    go (Ok h) q = found h.region h.rec (sound_in (region_of s image h.region) h.rec) q

@@ -1,5 +1,5 @@
 -- A key's value where it lies in the image, for any image, S, N and key: what is answered, where the value begins, and its bytes.
-use Rattle.std.specs.Prelude.{ℕ, ◌+◌, ◌*◌, cond, List, [], take, drop, Result, Ok, Err}
+use Rattle.std.specs.Prelude.{ℕ, ◌+◌, ◌*◌, cond, List, [], take, drop, Result, Err, Ok}
 use Rattle.chip.specs.Geometry.{region_of}
 use Rattle.format.specs.declared.Record.{Record}
 use Rattle.format.specs.Layout.{header_length}
@@ -21,9 +21,9 @@ located_in region start x =
     (Err Refusal.InvalidCheckSum)
 
 -- R16.1: a live record decides: its value. A bad place decides, or no region: the refusal.
-abbrev pub located_by : ℕ → List ℕ → Hit → Result Part Refusal
-located_by s image (Hit.Refused w) = Err w
-located_by s image (Hit.Live r x) = located_in (region_of s image r) (r * s) x
+abbrev pub located_by : ℕ → List ℕ → Result Hit Refusal → Result Part Refusal
+located_by s image (Err w) = Err w
+located_by s image (Ok h) = located_in (region_of s image h.region) (h.region * s) h.rec
 
 -- R16.1, R16.2: get's lookup, where the value lies, or why it is refused.
 unfoldable pub located_of : List ℕ → ℕ → ℕ → ℕ → Result Part Refusal

@@ -6,7 +6,6 @@ ghost use Rattle.std.specs.Prelude.{◌≡◌, ◌+◌, ◌≤◌, ◌<◌, leng
 ghost use Rattle.lending.specs.Lending.{located_in, located_of, companion_of, value_of};
 
 use format::Record;
-use lookup::Hit;
 use plans::Answer;
 use refusals::Refusal;
 
@@ -35,13 +34,12 @@ fn locate(region: &[u8], start: usize, rec: Record) -> Result<Part, Refusal>
 pub fn find_value(image: &[u8], s: usize, n: usize, key: u64) -> Result<Part, Refusal>
     ensures { result ≡ located_of image.now s n key }
 {
-    let hit = lookup::find_key(image, s, n, key);
-    match hit {
-        Hit::Refused(refusal) => Err(refusal),
-        Hit::Live { region, rec } => {
-            let a = region * s;
+    match lookup::find_key(image, s, n, key) {
+        Err(refusal) => Err(refusal),
+        Ok(hit) => {
+            let a = hit.region * s;
             let e = a + s;
-            locate(&image[a..e], a, rec)
+            locate(&image[a..e], a, hit.rec)
         }
     }
 }

@@ -2,31 +2,26 @@
 -- Assumes nothing.
 use Prim.Native.Nat.{ℕ, ◌+◌, ◌*◌, ◌^◌, ◌≤◌, ◌<◌}
 use native.Mathlib.Omega.{arith}
-use mathlib.Core.Path.{◌≡◌, refl, sym, ◌∙◌}
+use mathlib.Core.Path.{◌≡◌, refl, sym, ◌∙◌, ap}
 use mathlib.Core.Bool.{Bool}
 use mathlib.Core.List.{List}
 use lib.ListN.{length, take, drop}
+use Rattle.std.specs.Prelude.{Result, Ok, Err}
 use Rattle.chip.specs.Geometry.{Fits, region_of}
 use Rattle.chip.specs.Chip.{is_blank}
 use Rattle.chip.proofs.Image.{place_small, region_inside, region-length}
 use Rattle.probe.specs.Probe.{probes}
 use Rattle.probe.proofs.Theorems.{members}
 use Rattle.format.specs.declared.Record.{Record}
-use Rattle.refusals.specs.declared.Check.{Check}
 use Rattle.lookup.specs.declared.Need.{Need}
 use Rattle.lookup.specs.declared.Room.{Room}
 use Rattle.lookup.specs.declared.Seen.{Seen}
 use Rattle.lookup.specs.declared.Looked.{Looked}
 use Rattle.lookup.specs.declared.Hit.{Hit}
 use Rattle.refusals.specs.Refusals.{first_refusal}
-use Rattle.lookup.specs.Turns.{lookup_in, refused_by, hit_by, hit_after, hit_of}
+use Rattle.lookup.specs.Turns.{lookup_in, hit_by, hit_after, hit_of, hits}
 use Rattle.lookup.proofs.Scan.{Found, found, fine, gathered_first, room_from}
-
--- an end that is no live record is the refusal of what looks for one
-pub not_live : (looked : Looked) → ((r : ℕ) (x : Record) → looked ≡ Looked.Live r x → ⊥) → hit_by looked ≡ Hit.Refused (refused_by looked)
-not_live (Looked.Live r x) k = absurd (k r x refl)
-not_live (Looked.Bad f p) k = refl
-not_live (Looked.Through seen) k = refl
+use Rattle.refusals.specs.declared.Refusal.{Refusal}
 
 -- A live record that was found: the image is allowed, and the record lies in it.
 pub record Held (image : List ℕ) (s n key r : ℕ) (x : Record) : Type 0 where
@@ -39,18 +34,18 @@ pub record Held (image : List ℕ) (s n key r : ℕ) (x : Record) : Type 0 where
 held_of : {image : List ℕ} {s n key r : ℕ} {x : Record} → Fits image s n → Found image s n key r x → Held image s n key r x
 held_of f o = record { fit = f; found = o; inside = region_inside f o.number; small = place_small f; size = region-length f o.number }
 
-pub held : (image : List ℕ) (s n key r : ℕ) (x : Record) → hit_of image s n key ≡ Hit.Live r x → Held image s n key r x
+pub held : (image : List ℕ) (s n key r : ℕ) (x : Record) → hit_of image s n key ≡ hits r x → Held image s n key r x
 unfolding hit_of
 held image s n key r x h = check (first_refusal image s n key 0) refl h
   where
-    look : Fits image s n → (l : Looked) → lookup_in key Need.Nothing s image (probes key n) ≡ l → hit_by l ≡ Hit.Live r x → Held image s n key r x
-    look f (Looked.Live q y) e h = held_of f (found key Need.Nothing r x f (e ∙ (let a : q ≡ r = cc in let b : y ≡ x = cc in λ i. Looked.Live (a i) (b i))))
+    look : Fits image s n → (l : Looked) → lookup_in key Need.Nothing s image (probes key n) ≡ l → hit_by l ≡ hits r x → Held image s n key r x
+    look f (Looked.Live q y) e h = held_of f (found key Need.Nothing r x f (e ∙ (let same : ◌≡◌ {A = Hit} (record { region = q; rec = y }) (record { region = r; rec = x }) = cc in ap (λ (t : Hit). Looked.Live t.region t.rec) same)))
     look f (Looked.Bad g p) e h = absurd (let z : ◌≡◌ {A = ℕ} 0 1 = cc in omega arith)
     look f (Looked.Through seen) e h = absurd (let z : ◌≡◌ {A = ℕ} 0 1 = cc in omega arith)
 
-    check : (c : Check) → first_refusal image s n key 0 ≡ c → hit_after image s n key c ≡ Hit.Live r x → Held image s n key r x
-    check (Check.Refused w) e h = absurd (let z : ◌≡◌ {A = ℕ} 0 1 = cc in omega arith)
-    check Check.Fine e h = look (fine image s n key 0 e).0 (lookup_in key Need.Nothing s image (probes key n)) refl h
+    check : (c : Result (Unit {0}) Refusal) → first_refusal image s n key 0 ≡ c → hit_after image s n key c ≡ hits r x → Held image s n key r x
+    check (Err w) e h = absurd (let z : ◌≡◌ {A = ℕ} 0 1 = cc in omega arith)
+    check (Ok u) e h = look (fine image s n key 0 e).0 (lookup_in key Need.Nothing s image (probes key n)) refl h
 
 -- Append's place lies in the image.
 pub record Placed (image : List ℕ) (s n len r o : ℕ) : Type 0 where

@@ -8,6 +8,7 @@ use mathlib.Core.List.{List, [], ◌∷◌, Memᴰ}
 use lib.Dec.{ltb, leb}
 use lib.ListN.{length, take, drop}
 use borrow.Author.Tests.{le-leb, lt-leb, leb-true, ltb-false}
+use Rattle.std.specs.Prelude.{Ok, Err}
 use Rattle.chip.specs.Chip.{is_blank}
 use Rattle.chip.specs.Geometry.{Fits, geometry, region_of}
 use Rattle.chip.proofs.Image.{geometry_fits, region-length}
@@ -22,7 +23,6 @@ use Rattle.region.specs.Walk.{ending, event_of, event_in}
 use Rattle.region.proofs.Steps.{place_of}
 use Rattle.region.proofs.Theorems.{stop_decides, stop_within, live_decides, records_within, records_short}
 use Rattle.refusals.specs.declared.Refusal.{Refusal}
-use Rattle.refusals.specs.declared.Check.{Check}
 use Rattle.lookup.specs.declared.Need.{Need}
 use Rattle.lookup.specs.declared.Room.{Room}
 use Rattle.lookup.specs.declared.Seen.{Seen}
@@ -166,12 +166,12 @@ room_from len s image (q ∷ rs) r o blank h = go (room_from len s image rs r o 
     go ih (Stop.Bad f p) e h = later ih h
 
 -- What is allowed before anything is read.
-pub fine : (image : List ℕ) (s n key len : ℕ) → first_refusal image s n key len ≡ Check.Fine → Fits image s n × (allowed_key key ≡ true) × (len ≤ 4079)
+pub fine : (image : List ℕ) (s n key len : ℕ) → first_refusal image s n key len ≡ Ok tt → Fits image s n × (allowed_key key ≡ true) × (len ≤ 4079)
 unfolding first_refusal
 fine image s n key len h = go (geometry image s n) refl (allowed_key key) refl (ltb 4079 len) refl h
   where
     go : (a : Bool) → geometry image s n ≡ a → (b : Bool) → allowed_key key ≡ b → (c : Bool) → ltb 4079 len ≡ c
-        → cond (not a) (Check.Refused Refusal.BadGeometry) (cond (not b) (Check.Refused Refusal.BadKey) (cond c (Check.Refused Refusal.ObjectTooLarge) Check.Fine)) ≡ Check.Fine
+        → cond (not a) (Err Refusal.BadGeometry) (cond (not b) (Err Refusal.BadKey) (cond c (Err Refusal.ObjectTooLarge) (Ok (tt {0})))) ≡ Ok tt
         → Fits image s n × (allowed_key key ≡ true) × (len ≤ 4079)
     go true p true q false t h = (geometry_fits p, q, ltb-false _ _ t)
     go true p true q true t h = absurd (let z : ◌≡◌ {A = ℕ} 0 1 = cc in omega arith)

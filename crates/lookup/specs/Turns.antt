@@ -1,13 +1,13 @@
 -- A lookup of a key over the regions of an image, one region at a time. Its policy stands here, once: `turn` says what a region's event does to what has
 -- been gathered, `close` how a lookup ends that no region decided.
-use Rattle.std.specs.Prelude.{ℕ, ◌+◌, ◌*◌, List, [], ◌∷◌, length}
+use Rattle.std.specs.Prelude.{ℕ, ◌+◌, ◌*◌, List, [], ◌∷◌, length, Result, Ok, Err}
 use Rattle.chip.specs.Geometry.{region_of}
 use Rattle.probe.specs.Probe.{probes}
+use Rattle.format.specs.declared.Record.{Record}
 use Rattle.region.specs.declared.Want.{Want}
 use Rattle.region.specs.declared.Event.{Event}
 use Rattle.region.specs.Walk.{event_in}
 use Rattle.refusals.specs.declared.Refusal.{Refusal}
-use Rattle.refusals.specs.declared.Check.{Check}
 use Rattle.lookup.specs.declared.Need.{Need}
 use Rattle.lookup.specs.declared.Seen.{Seen}
 use Rattle.lookup.specs.declared.Looked.{Looked}
@@ -61,17 +61,21 @@ refused_by (Looked.Live r x) = Refusal.KeyAlreadyExists
 refused_by (Looked.Bad f p) = refusal_of f
 refused_by (Looked.Through seen) = Refusal.KeyNotFound
 
+-- R5.2: a live record that was found, and its region.
+abbrev pub hits : ℕ → Record → Result Hit Refusal
+hits r x = Ok (record { region = r; rec = x })
+
 -- R5.2, R5.5, R5.6: the key's live record and its region, or the refusal by a bad place or by no region: what get and the removals look for.
-abbrev pub hit_by : Looked → Hit
-hit_by (Looked.Live r x) = Hit.Live r x
-hit_by (Looked.Bad f p) = Hit.Refused (refused_by (Looked.Bad f p))
-hit_by (Looked.Through seen) = Hit.Refused (refused_by (Looked.Through seen))
+abbrev pub hit_by : Looked → Result Hit Refusal
+hit_by (Looked.Live r x) = hits r x
+hit_by (Looked.Bad f p) = Err (refused_by (Looked.Bad f p))
+hit_by (Looked.Through seen) = Err (refused_by (Looked.Through seen))
 
 -- R7.2: where the arguments are refused nothing is read; else the key is looked up in its probe order.
-abbrev pub hit_after : List ℕ → ℕ → ℕ → ℕ → Check → Hit
-hit_after image s n key (Check.Refused w) = Hit.Refused w
-hit_after image s n key Check.Fine = hit_by (lookup_in key Need.Nothing s image (probes key n))
+abbrev pub hit_after : List ℕ → ℕ → ℕ → ℕ → Result (Unit {0}) Refusal → Result Hit Refusal
+hit_after image s n key (Err w) = Err w
+hit_after image s n key (Ok u) = hit_by (lookup_in key Need.Nothing s image (probes key n))
 
 -- R5.1: the lookup that get and the removals begin with, behind the refusals of the arguments.
-unfoldable pub hit_of : List ℕ → ℕ → ℕ → ℕ → Hit
+unfoldable pub hit_of : List ℕ → ℕ → ℕ → ℕ → Result Hit Refusal
 hit_of image s n key = hit_after image s n key (first_refusal image s n key 0)

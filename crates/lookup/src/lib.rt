@@ -75,27 +75,27 @@ impl Looked {
     {
         match self {
             Looked::Live { region: _, rec: _ } => Refusal::KeyAlreadyExists,
-            Looked::Bad { fault, place: _ } => Refusal::of(fault),
+            Looked::Bad { fault, place: _ } => fault.into(),
             Looked::Through(_) => Refusal::KeyNotFound,
         }
     }
 
     // What get and the removals make of it.
-    pub fn hit(self) -> Hit
+    pub fn hit(self) -> Result<Hit, Refusal>
         ensures { result ≡ hit_by self }
     {
         let Looked::Live { region, rec } = self else {
-            return Hit::Refused(self.refusal());
+            return Err(self.refusal());
         };
-        Hit::Live { region, rec }
+        Ok(Hit { region, rec })
     }
 }
 
-// R5.2, R5.5, R5.6: what get and the removals look for: the key's live record and its region, or the refusal where there is none.
+// R5.2, R5.5, R5.6: what get and the removals look for: the key's live record and its region.
 #[derive(Clone, Copy)]
-pub enum Hit {
-    Live { region: usize, rec: Record },
-    Refused(Refusal),
+pub struct Hit {
+    pub region: usize,
+    pub rec: Record,
 }
 
 // R5.1: one more region seen: the lookup goes on with what it has gathered, or it ends.

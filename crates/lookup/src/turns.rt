@@ -6,7 +6,7 @@ ghost use Rattle.lookup.specs.Turns.{turn_of, lookup_in, hit_of};
 
 use crate::gather::note;
 use crate::{Hit, Looked, Need, Seen, Turn};
-use refusals::Check;
+use refusals::Refusal;
 use region::{Event, Want};
 
 // One more region, number r. This is the policy of every lookup, and `Seen::close` is the rest of it.
@@ -52,13 +52,10 @@ pub fn look_up(image: &[u8], s: usize, n: usize, key: u64, need: Need) -> Looked
 }
 
 // The key's live record, as get and the removals look for it.
-pub fn find_key(image: &[u8], s: usize, n: usize, key: u64) -> Hit
+pub fn find_key(image: &[u8], s: usize, n: usize, key: u64) -> Result<Hit, Refusal>
     ensures { result ≡ hit_of image.now s n key }
 {
-    let check = refusals::first_refusal(image, s, n, key, 0);
-    if let Check::Refused(refusal) = check {
-        return Hit::Refused(refusal);
-    }
+    refusals::first_refusal(image, s, n, key, 0)?;
     let looked = look_up(image, s, n, key, Need::Nothing);
     looked.hit()
 }

@@ -4,7 +4,8 @@
 
 use host::Host;
 use plans::Answer;
-use running::{Op, Reply, Start};
+use refusals::Refusal;
+use running::{Op, Reply};
 use steps::Stepped;
 
 fn main() {
@@ -26,10 +27,10 @@ fn refused_starts() {
     );
 }
 
-fn started(what: &[u8], start: Start) {
+fn started(what: &[u8], start: Result<Op, Refusal>) {
     match start {
-        Start::Runs(_) => report::line(what),
-        Start::Refused(refusal) => report::answer(what, Answer::Refused(refusal)),
+        Ok(_) => report::line(what),
+        Err(refusal) => report::answer(what, Answer::Refused(refusal)),
     }
 }
 
@@ -46,7 +47,7 @@ fn bad_appends(image: &mut [u8; 256]) {
     let mut none: [u8; 0] = [];
     let value = [7u8, 8, 9];
     report::line(b"append 1, 3 bytes, with bad calls");
-    let Start::Runs(op) = running::start_append(64, 4, 1, 3) else {
+    let Ok(op) = running::start_append(64, 4, 1, 3) else {
         return;
     };
     let first = host::begin(op, &mut region, &value, &mut none);
@@ -89,7 +90,7 @@ fn bad_gets(image: &mut [u8; 256]) {
     let mut region = [0u8; 64];
     let mut buffer = [0u8; 5];
     report::line(b"get 1 into 5 bytes, with bad calls");
-    let Start::Runs(op) = running::start_get(64, 4, 1, 5) else {
+    let Ok(op) = running::start_get(64, 4, 1, 5) else {
         return;
     };
     let op = tried(

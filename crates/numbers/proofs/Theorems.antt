@@ -3,6 +3,7 @@
 use mathlib.Core.Path.{◌≡◌, refl, sym, ◌∙◌, ap}
 use mathlib.Core.Bool.{true, false, true≢false}
 use lib.ListN.{get_or}
+use Rattle.std.specs.Prelude.{Some}
 use Rattle.plans.specs.declared.Answer.{Answer}
 use Rattle.plans.specs.declared.Answer.TheVariants.{Complete, Written, Freed, Refused}
 use Rattle.plans.specs.Answers.{refusal, values}
@@ -11,7 +12,6 @@ use Rattle.running.specs.declared.Reply.{Reply}
 use Rattle.running.specs.declared.Request.{Request}
 use Rattle.rule.specs.Rule.{rule}
 use Rattle.operations.specs.declared.COperation.{COperation}
-use Rattle.operations.specs.declared.unpacks.KnownReply.{KnownReply}
 use Rattle.replies.specs.Answers.{answer_numbers, request_numbers}
 use Rattle.operations.specs.Unpacks.{no_operation, KnownOp, standing, unpacked, reply_number, known_reply}
 use Rattle.numbers.specs.Packs.{few, over, packed}
@@ -34,7 +34,7 @@ pub own_numbers_only : (o : COperation) (op : Op) → unpacked o ≡ KnownOp.Kno
 own_numbers_only = own
 
 -- R12.3: the number of a reply stands for that reply.
-pub known_number : (y : Reply) → known_reply (reply_number y) ≡ KnownReply.Known y
+pub known_number : (y : Reply) → known_reply (reply_number y) ≡ Some y
 unfolding known_reply
 known_number Reply.Begin = refl
 known_number Reply.Done = refl

@@ -1,5 +1,5 @@
 -- A running operation in numbers. What a kind does not use is 0.
-use Rattle.std.specs.Prelude.{ℕ, ◌≡◌, Bool, true, false, cond}
+use Rattle.std.specs.Prelude.{ℕ, ◌≡◌, Bool, true, false, cond, Result, Ok, Err}
 use Rattle.format.specs.declared.Removal.{Removal}
 use Rattle.lookup.specs.declared.Room.{Room}
 use Rattle.refusals.specs.Refusals.{number}
@@ -14,12 +14,12 @@ use Rattle.plans.specs.declared.Then.{Then}
 use Rattle.plans.specs.declared.Plan.{Plan}
 use Rattle.plans.specs.Writes.{first}
 use Rattle.running.specs.declared.Op.{Op}
-use Rattle.running.specs.declared.Start.{Start}
 use Rattle.operations.specs.declared.COperation.{COperation}
 use Rattle.operations.specs.Unpacks.{no_operation}
 use Rattle.numbers.specs.declared.CStart.{CStart}
 use Rattle.numbers.specs.declared.packs.Slot.{Slot}
 use Rattle.numbers.specs.declared.packs.Next.{Next}
+use Rattle.refusals.specs.declared.Refusal.{Refusal}
 
 -- R12.4: `lent`: 0 nothing, 1 a value, 2 a buffer.
 abbrev pub lent_number : Lent → ℕ
@@ -158,9 +158,9 @@ packed op =
     (in_numbers op no_slot (next_at 0 0 0)))
 
 -- R12.6: a start hands out 0 and a fresh operation, or a refusal's number and twenty zeros.
-abbrev pub start_numbers : Start → CStart
-start_numbers (Start.Runs op) = record { refusal = 0; op = packed op }
-start_numbers (Start.Refused w) = record { refusal = number w; op = no_operation }
+abbrev pub start_numbers : Result Op Refusal → CStart
+start_numbers (Ok op) = record { refusal = 0; op = packed op }
+start_numbers (Err w) = record { refusal = number w; op = no_operation }
 
 -- R12.6: a fresh operation looks at a region first: nothing is left to write or erase, and no answer is at hand.
 pub record Looks (op : Op) : Type 0 where
@@ -168,11 +168,11 @@ pub record Looks (op : Op) : Type 0 where
   pub goes_on : over op.plan ≡ false
 
 -- R12.6: so does what a start hands out, if anything.
-abbrev pub start_looks : Start → Type 0
-start_looks (Start.Runs op) = Looks op
-start_looks (Start.Refused w) = Unit {0}
+abbrev pub start_looks : Result Op Refusal → Type 0
+start_looks (Ok op) = Looks op
+start_looks (Err w) = Unit {0}
 
 -- R12.6: what a start hands out, if anything, has numbers.
-abbrev pub start_few : Start → Bool
-start_few (Start.Runs op) = few op.plan.edits
-start_few (Start.Refused w) = true
+abbrev pub start_few : Result Op Refusal → Bool
+start_few (Ok op) = few op.plan.edits
+start_few (Err w) = true

@@ -8,7 +8,8 @@ use format::Removal;
 use lookup::Room;
 use operations::COperation;
 use plans::{Aim, Answer, Edit, Edits, Lent, Plan, Then};
-use running::{Op, Start};
+use refusals::Refusal;
+use running::Op;
 
 // R12.4: the numbers of the edit that is left.
 #[derive(Clone, Copy)]
@@ -300,16 +301,16 @@ fn pack_fresh(op: Op) -> COperation
 }
 
 // R12.6: a start in numbers.
-pub fn pack_start(start: Start) -> CStart
+pub fn pack_start(start: Result<Op, Refusal>) -> CStart
     requires { start_looks start }
     ensures { result ≡ start_numbers start }
 {
     match start {
-        Start::Runs(op) => CStart {
+        Ok(op) => CStart {
             refusal: 0,
             op: pack_fresh(op),
         },
-        Start::Refused(refusal) => CStart {
+        Err(refusal) => CStart {
             refusal: refusal.number(),
             op: COperation::none(),
         },

@@ -1,5 +1,5 @@
 -- The running operation and the reply that numbers stand for.
-use Rattle.std.specs.Prelude.{ℕ, Bool, true, false, cond, ◌&&◌, eqb, ltb}
+use Rattle.std.specs.Prelude.{ℕ, Bool, true, false, cond, ◌&&◌, eqb, ltb, Option, Some, None}
 use Rattle.format.specs.declared.Record.{Record}
 use Rattle.format.specs.declared.Removal.{Removal}
 use Rattle.lookup.specs.declared.Room.{Room}
@@ -13,7 +13,6 @@ use Rattle.plans.specs.declared.Then.{Then}
 use Rattle.running.specs.declared.Op.{Op}
 use Rattle.running.specs.declared.Reply.{Reply}
 use Rattle.operations.specs.declared.COperation.{COperation}
-use Rattle.operations.specs.declared.unpacks.KnownReply.{KnownReply}
 
 -- What the numbers that are used say, each read as the last kind where it is the number of none.
 
@@ -143,13 +142,13 @@ reply_number Reply.NotReady = 2
 reply_number Reply.Failed = 3
 
 -- R12.3: which reply a number stands for: any but these four for none (R6.11).
-unfoldable pub known_reply : ℕ → KnownReply
+unfoldable pub known_reply : ℕ → Option Reply
 known_reply y =
-    cond (eqb y 0) (KnownReply.Known Reply.Begin)
-    (cond (eqb y 1) (KnownReply.Known Reply.Done)
-    (cond (eqb y 2) (KnownReply.Known Reply.NotReady)
-    (cond (eqb y 3) (KnownReply.Known Reply.Failed)
-    KnownReply.Unknown)))
+    cond (eqb y 0) (Some Reply.Begin)
+    (cond (eqb y 1) (Some Reply.Done)
+    (cond (eqb y 2) (Some Reply.NotReady)
+    (cond (eqb y 3) (Some Reply.Failed)
+    None)))
 
 -- R12.6: twenty zeros, which a start that refuses hands out. They stand for no operation.
 abbrev pub no_operation : COperation

@@ -7,7 +7,7 @@ mod unpacks;
 ghost use Rattle.std.specs.Prelude.{◌≡◌};
 ghost use Rattle.operations.specs.Unpacks.{no_operation};
 
-pub use unpacks::{KnownReply, known_reply, read_as, stands};
+pub use unpacks::{known_reply, read_as, stands};
 
 // R12.4: a running operation as twenty numbers. Those that R12.4 gives no meaning are 0.
 // `layout`: which numbering this is, since a host may keep an operation over an update of the library.

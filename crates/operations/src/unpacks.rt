@@ -8,13 +8,6 @@ use lookup::{Room, Seen};
 use plans::{Aim, Answer, Edit, Edits, Lent, Plan, Then};
 use running::{Op, Reply};
 
-// R12.3: the reply that a number stands for, where it stands for any.
-#[derive(Clone, Copy)]
-pub enum KnownReply {
-    Known(Reply),
-    Unknown,
-}
-
 fn lent_in(lent: u32, len: usize) -> Lent
     ensures { result ≡ lent_in lent len }
 {
@@ -299,20 +292,15 @@ pub fn stands(o: COperation) -> bool
 }
 
 // R12.3: the host's reply: 0 begin, 1 done, 2 not ready, 3 failed.
-pub fn known_reply(reply: u32) -> KnownReply
+#[tactic(auto, unfolding(crate::specs::Unpacks::known_reply))]
+pub fn known_reply(reply: u32) -> Option<Reply>
     ensures { result ≡ known_reply reply }
 {
-    if reply == 0 {
-        return KnownReply::Known(Reply::Begin);
+    match reply {
+        0 => Some(Reply::Begin),
+        1 => Some(Reply::Done),
+        2 => Some(Reply::NotReady),
+        3 => Some(Reply::Failed),
+        _ => None,
     }
-    if reply == 1 {
-        return KnownReply::Known(Reply::Done);
-    }
-    if reply == 2 {
-        return KnownReply::Known(Reply::NotReady);
-    }
-    if reply == 3 {
-        return KnownReply::Known(Reply::Failed);
-    }
-    KnownReply::Unknown
 }

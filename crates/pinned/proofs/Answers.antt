@@ -10,6 +10,7 @@ use mathlib.Core.Logic.{◌⊎◌, inl, inr, ⊎_elim}
 use lib.Dec.{ltb}
 use lib.ListN.{length}
 use borrow.Author.Tests.{lt-ltb, le-ltb, ltb-true, ltb-false}
+use Rattle.std.specs.Prelude.{Result, Err}
 use Rattle.chip.specs.Geometry.{region_of}
 use Rattle.probe.specs.Probe.{probes}
 use Rattle.format.specs.declared.Record.{Record}
@@ -19,7 +20,6 @@ use Rattle.format.specs.declared.Fault.TheVariants.{UnsupportedVersion, CorruptD
 use Rattle.format.specs.Layout.{record_length, check_sum_fits}
 use Rattle.region.specs.Walk.{bytes_in, value_length}
 use Rattle.refusals.specs.declared.Refusal.{Refusal}
-use Rattle.refusals.specs.declared.Check.{Check}
 use Rattle.lookup.specs.declared.Need.{Need}
 use Rattle.lookup.specs.declared.Room.{Room}
 use Rattle.lookup.specs.declared.Seen.{Seen}
@@ -51,7 +51,7 @@ module _ (image : List ℕ) (s n : ℕ) where
     pub number_is : number why ≡ k
     pub done : outcome c image s n ≡ refused why (left_by c image s n)
 
-  early_left : (c : Call) {w : Refusal} → Early image s n c (Check.Refused w) → left_by c image s n ≡ image
+  early_left : (c : Call) {w : Refusal} → Early image s n c (Err w) → left_by c image s n ≡ image
   unfolding erase_all
   early_left (get key buffer) e = refl
   early_left (append key value) e = refl
@@ -61,13 +61,13 @@ module _ (image : List ℕ) (s n : ℕ) where
   early_left collect (Early.too_large f b l) = absurd (omega arith)
   early_left (initialise key) e = refl
 
-  early_refusing : {c : Call} {w : Refusal} → Early image s n c (Check.Refused w) → Refusing (number w) c
+  early_refusing : {c : Call} {w : Refusal} → Early image s n c (Err w) → Refusing (number w) c
   early_refusing {c} {w} e = record { why = w; number_is = refl; done = early_refuses e ∙ ap (refused w) (sym (early_left c e)) }
 
   -- a lookup that ends image s n at no live record of the key
-  by_hit : {c : Call} {key : ℕ} {w : Refusal} → Looks c key Need.Nothing → hit_of image s n key ≡ Hit.Refused w → outcome c image s n ≡ refused w (left_by c image s n)
+  by_hit : {c : Call} {key : ℕ} {w : Refusal} → Looks c key Need.Nothing → hit_of image s n key ≡ Err w → outcome c image s n ≡ refused w (left_by c image s n)
   unfolding get_of remove_of applied
-  by_hit (get_looks {buffer = buffer}) h = ap (λ (hit : Hit). record { answer = (got_by s image buffer hit).answer; image = image }) h
+  by_hit (get_looks {buffer = buffer}) h = ap (λ (hit : Result Hit Refusal). record { answer = (got_by s image buffer hit).answer; image = image }) h
   by_hit (remove_looks {how = how} {key = key}) h = ap (remove_by how s image key) h
 
   bad_done : {c : Call} (f : Fault) → Reads image s n c → MeetsBad image s n f c → outcome c image s n ≡ refused (refusal_of f) (left_by c image s n)
@@ -202,7 +202,7 @@ module _ (image : List ℕ) (s n : ℕ) where
   pub reason : (c : Call) → Why c
   reason c = go (early_view image s n c)
     where
-      go : {check : Check} → Early image s n c check → Why c
+      go : {check : Result (Unit {0}) Refusal} → Early image s n c check → Why c
       go (Early.geometry_bad h) = inr (1, When.bad_geometry h)
       go (Early.key_bad f b) = inr (2, When.bad_key f b)
       go (Early.too_large f b l) = inr (3, When.object_too_large f b l)
@@ -216,7 +216,7 @@ module _ (image : List ℕ) (s n : ℕ) where
   pub reads_if : (c : Call) → refusal (answer_of c image s n) ≡ 0 → Reads image s n c
   reads_if c e = go (early_view image s n c)
     where
-      go : {check : Check} → Early image s n c check → Reads image s n c
+      go : {check : Result (Unit {0}) Refusal} → Early image s n c check → Reads image s n c
       go (Early.geometry_bad p) = absurd (not_refused c e (When.bad_geometry p))
       go (Early.key_bad p q) = absurd (not_refused c e (When.bad_key p q))
       go (Early.too_large p q t) = absurd (not_refused c e (When.object_too_large p q t))

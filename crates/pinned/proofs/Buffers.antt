@@ -7,6 +7,7 @@ use mathlib.Core.Bool.{Bool, true, false, cond}
 use mathlib.Core.List.{List}
 use lib.Dec.{ltb}
 use lib.ListN.{length}
+use Rattle.std.specs.Prelude.{Result, Err, Ok}
 use Rattle.chip.specs.Geometry.{region_of}
 use Rattle.format.specs.Layout.{check_sum_fits}
 use Rattle.region.specs.Walk.{bytes_in, value_length}
@@ -28,6 +29,6 @@ refused_buffer image s n key buffer = go (hit_of image s n key)
     copies len false true l h = omega arith
     copies len false false l h = omega arith
 
-    go : (hit : Hit) → 1 ≤ refusal (got_by s image buffer hit).answer → refusal (got_by s image buffer hit).answer < 9 → (got_by s image buffer hit).buffer ≡ buffer
-    go (Hit.Refused w) l h = refl
-    go (Hit.Live r x) l h = absurd (copies (value_length x) (ltb (length buffer) (value_length x)) (check_sum_fits (bytes_in (region_of s image r) x)) l h)
+    go : (hit : Result Hit Refusal) → 1 ≤ refusal (got_by s image buffer hit).answer → refusal (got_by s image buffer hit).answer < 9 → (got_by s image buffer hit).buffer ≡ buffer
+    go (Err w) l h = refl
+    go (Ok t) l h = absurd (copies (value_length t.rec) (ltb (length buffer) (value_length t.rec)) (check_sum_fits (bytes_in (region_of s image t.region) t.rec)) l h)

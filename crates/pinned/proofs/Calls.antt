@@ -8,6 +8,7 @@ use mathlib.Core.Bool.{Bool, true, false, cond}
 use mathlib.Core.List.{List, []}
 use lib.Dec.{ltb}
 use lib.ListN.{length}
+use Rattle.std.specs.Prelude.{Result}
 use Rattle.chip.specs.Chip.{erased, written}
 use Rattle.chip.specs.Geometry.{Fits, region_of, numbers}
 use Rattle.chip.proofs.Image.{fits_geometry}
@@ -24,7 +25,7 @@ use Rattle.lookup.specs.declared.Seen.{Seen}
 use Rattle.lookup.specs.declared.Looked.{Looked}
 use Rattle.lookup.specs.declared.Hit.{Hit}
 use Rattle.refusals.specs.Refusals.{first_refusal}
-use Rattle.lookup.specs.Turns.{lookup_in, hit_by, hit_after, hit_of}
+use Rattle.lookup.specs.Turns.{lookup_in, hit_by, hit_after, hit_of, hits}
 use Rattle.lookup.specs.Words.{first_room}
 use Rattle.lookup.proofs.Scan.{gathered_first}
 use Rattle.plans.specs.declared.Answer.TheVariants.{Complete, Written, Refused}
@@ -52,7 +53,7 @@ module _ (image : List ℕ) (s n : ℕ) where
   hit_is {c} {key} reads remove_looks = ap (hit_after image s n key) (early_is {c = c} (Early.fine reads))
 
   pub got_live : {key r : ℕ} {x : Record} (buffer : List ℕ) → Reads image s n (get key buffer) → ends key Need.Nothing ≡ Looked.Live r x
-      → get_of image s n key buffer ≡ got_by s image buffer (Hit.Live r x)
+      → get_of image s n key buffer ≡ got_by s image buffer (hits r x)
   unfolding get_of
   got_live buffer reads e = ap (got_by s image buffer) (hit_is reads get_looks ∙ ap hit_by e)
 
@@ -91,8 +92,8 @@ module _ (image : List ℕ) (s n : ℕ) where
   pub initialise_anew : (key : ℕ) → Reads image s n (initialise key) → 1 ≤ refusal (answer_of (get key []) image s n) → outcome (initialise key) image s n ≡ anew key
   unfolding initialise_of get_of
   initialise_anew key reads h =
-      ap (λ (hit : Hit). initialise_by image s n key (got_by s image [] hit).answer) hit
-      ∙ go (ends key Need.Nothing) (subst (λ (t : Hit). 1 ≤ refusal (got_by s image [] t).answer) hit h)
+      ap (λ (hit : Result Hit Refusal). initialise_by image s n key (got_by s image [] hit).answer) hit
+      ∙ go (ends key Need.Nothing) (subst (λ (t : Result Hit Refusal). 1 ≤ refusal (got_by s image [] t).answer) hit h)
     where
       hit : hit_of image s n key ≡ hit_by (ends key Need.Nothing)
       hit = hit_is (record { fits = reads.fits; key_good = reads.key_good; not_large = omega arith }) (get_looks {buffer = []})

@@ -10,12 +10,12 @@ use mathlib.Core.Logic.{inl, inr, ⊎_elim}
 use lib.Dec.{ltb, eqb}
 use lib.ListN.{length}
 use borrow.Author.Tests.{ltb-true, ltb-false, eqb-true, eqb-false}
+use Rattle.std.specs.Prelude.{Result, Ok, Err}
 use Rattle.chip.specs.Geometry.{Fits, geometry, numbers}
 use Rattle.chip.proofs.Image.{geometry_fits, fits_geometry}
 use Rattle.probe.specs.Probe.{allowed_key}
 use Rattle.format.specs.Layout.{edition, largest_value}
 use Rattle.refusals.specs.declared.Refusal.{Refusal}
-use Rattle.refusals.specs.declared.Check.{Check}
 use Rattle.refusals.specs.Refusals.{first_refusal}
 use Rattle.lookup.specs.Turns.{hit_after, hit_of}
 use Rattle.plans.specs.declared.Answer.TheVariants.{Refused}
@@ -83,43 +83,43 @@ size_says m = go (ltb (largest_value edition) m) refl
     go false e = λ l. let g : m ≤ largest_value edition = ltb-false _ m e in omega arith
 
 -- What a call is given before it reads.
-abbrev pub early : Call → List ℕ → ℕ → ℕ → Check
+abbrev pub early : Call → List ℕ → ℕ → ℕ → Result (Unit {0}) Refusal
 early c image s n =
-    cond (not (geometry image s n)) (Check.Refused Refusal.BadGeometry)
-    (cond (barred (key_of c)) (Check.Refused Refusal.BadKey)
-    (cond (ltb (largest_value edition) (length (value_of c))) (Check.Refused Refusal.ObjectTooLarge)
-    Check.Fine))
+    cond (not (geometry image s n)) (Err Refusal.BadGeometry)
+    (cond (barred (key_of c)) (Err Refusal.BadKey)
+    (cond (ltb (largest_value edition) (length (value_of c))) (Err Refusal.ObjectTooLarge)
+    (Ok tt)))
 
 -- The three tests, and what each says.
-pub data Early (image : List ℕ) (s n : ℕ) (c : Call) : Check → Type 0 where
-  geometry_bad : (Fits image s n → ⊥) → Early image s n c (Check.Refused Refusal.BadGeometry)
-  key_bad : Fits image s n → BadKey c → Early image s n c (Check.Refused Refusal.BadKey)
-  too_large : Fits image s n → (BadKey c → ⊥) → largest_value edition < length (value_of c) → Early image s n c (Check.Refused Refusal.ObjectTooLarge)
-  fine : Reads image s n c → Early image s n c Check.Fine
+pub data Early (image : List ℕ) (s n : ℕ) (c : Call) : Result (Unit {0}) Refusal → Type 0 where
+  geometry_bad : (Fits image s n → ⊥) → Early image s n c (Err Refusal.BadGeometry)
+  key_bad : Fits image s n → BadKey c → Early image s n c (Err Refusal.BadKey)
+  too_large : Fits image s n → (BadKey c → ⊥) → largest_value edition < length (value_of c) → Early image s n c (Err Refusal.ObjectTooLarge)
+  fine : Reads image s n c → Early image s n c (Ok tt)
 
 pub early_view : (image : List ℕ) (s n : ℕ) (c : Call) → Early image s n c (early c image s n)
 early_view image s n c = go (geometry image s n) (geometry_says image s n) (barred (key_of c)) (key_says (key_of c)) (ltb (largest_value edition) (length (value_of c))) (size_says (length (value_of c)))
   where
     go : (a : Bool) → Says a (Fits image s n) → (b : Bool) → Says b (BadKey c) → (d : Bool) → Says d (largest_value edition < length (value_of c))
-        → Early image s n c (cond (not a) (Check.Refused Refusal.BadGeometry) (cond b (Check.Refused Refusal.BadKey) (cond d (Check.Refused Refusal.ObjectTooLarge) Check.Fine)))
+        → Early image s n c (cond (not a) (Err Refusal.BadGeometry) (cond b (Err Refusal.BadKey) (cond d (Err Refusal.ObjectTooLarge) (Ok tt))))
     go false p b q d t = geometry_bad p
     go true p true q d t = key_bad p q
     go true p false q true t = too_large p q t
     go true p false q false t = fine (record { fits = p; key_good = q; not_large = omega arith })
 
-pub early_is : {image : List ℕ} {s n : ℕ} {c : Call} {check : Check} → Early image s n c check → early c image s n ≡ check
+pub early_is : {image : List ℕ} {s n : ℕ} {c : Call} {check : Result (Unit {0}) Refusal} → Early image s n c check → early c image s n ≡ check
 early_is {image} {s} {n} {c} (geometry_bad p) = rw (no_geometry image s n p)
 early_is {image} {s} {n} {c} (key_bad p q) = rw (fits_geometry p, says_true (barred (key_of c)) (key_says (key_of c)) q)
 early_is {image} {s} {n} {c} (too_large p q t) = rw (fits_geometry p, says_false (barred (key_of c)) (key_says (key_of c)) q, says_true (ltb (largest_value edition) (length (value_of c))) (size_says (length (value_of c))) t)
 early_is {image} {s} {n} {c} (fine r) = rw (fits_geometry r.fits, says_false (barred (key_of c)) (key_says (key_of c)) r.key_good, says_false (ltb (largest_value edition) (length (value_of c))) (size_says (length (value_of c))) (λ t. let l = r.not_large in omega arith))
 
 -- A call by what it is given before it reads.
-abbrev pub after : Call → List ℕ → ℕ → ℕ → Check → Done
+abbrev pub after : Call → List ℕ → ℕ → ℕ → Result (Unit {0}) Refusal → Done
 after (get key buffer) image s n check = record { answer = (got_by s image buffer (hit_after image s n key check)).answer; image = image }
 after (append key value) image s n check = append_after image s n key value check
 after (remove how key) image s n check = remove_by how s image key (hit_after image s n key check)
-after collect image s n (Check.Refused w) = refused w image
-after collect image s n Check.Fine = collect_in s image 0 (numbers 0 n)
+after collect image s n (Err w) = refused w image
+after collect image s n (Ok u) = collect_in s image 0 (numbers 0 n)
 after (initialise key) image s n check = initialise_by image s n key (got_by s image [] (hit_after image s n key check)).answer
 
 outcome_after : (image : List ℕ) (s n : ℕ) (c : Call) → outcome c image s n ≡ after c image s n (early c image s n)
@@ -130,16 +130,16 @@ outcome_after image s n (remove how key) = refl
 outcome_after image s n collect = go (geometry image s n)
   where
     go : (b : Bool) → cond b (collect_in s image 0 (numbers 0 n)) (refused Refusal.BadGeometry image)
-        ≡ after collect image s n (cond (not b) (Check.Refused Refusal.BadGeometry) Check.Fine)
+        ≡ after collect image s n (cond (not b) (Err Refusal.BadGeometry) (Ok tt))
     go true = refl
     go false = refl
 outcome_after image s n (initialise key) = refl
 
-pub outcome_is : {image : List ℕ} {s n : ℕ} {c : Call} {check : Check} → Early image s n c check → outcome c image s n ≡ after c image s n check
+pub outcome_is : {image : List ℕ} {s n : ℕ} {c : Call} {check : Result (Unit {0}) Refusal} → Early image s n c check → outcome c image s n ≡ after c image s n check
 outcome_is {image} {s} {n} {c} e = outcome_after image s n c ∙ ap (after c image s n) (early_is e)
 
 -- Each of the three hands the image back, initialise's too.
-handed_back : (image : List ℕ) (s n : ℕ) (c : Call) (w : Refusal) → starts_anew (Refused w) ≡ false → after c image s n (Check.Refused w) ≡ refused w image
+handed_back : (image : List ℕ) (s n : ℕ) (c : Call) (w : Refusal) → starts_anew (Refused w) ≡ false → after c image s n (Err w) ≡ refused w image
 unfolding applied
 handed_back image s n (get key buffer) w h = refl
 handed_back image s n (append key value) w h = refl
@@ -147,10 +147,10 @@ handed_back image s n (remove how key) w h = refl
 handed_back image s n collect w h = refl
 handed_back image s n (initialise key) w h = rw h
 
-kept : {image : List ℕ} {s n : ℕ} {c : Call} {w : Refusal} → Early image s n c (Check.Refused w) → starts_anew (Refused w) ≡ false
+kept : {image : List ℕ} {s n : ℕ} {c : Call} {w : Refusal} → Early image s n c (Err w) → starts_anew (Refused w) ≡ false
 kept (geometry_bad p) = refl
 kept (key_bad p q) = refl
 kept (too_large p q t) = refl
 
-pub early_refuses : {image : List ℕ} {s n : ℕ} {c : Call} {w : Refusal} → Early image s n c (Check.Refused w) → outcome c image s n ≡ refused w image
+pub early_refuses : {image : List ℕ} {s n : ℕ} {c : Call} {w : Refusal} → Early image s n c (Err w) → outcome c image s n ≡ refused w image
 early_refuses {image} {s} {n} {c} {w} e = outcome_is e ∙ handed_back image s n c w (kept e)

@@ -10,7 +10,6 @@ use Rattle.format.specs.declared.Fault.{Fault}
 use Rattle.lookup.specs.declared.Room.{Room}
 use Rattle.lookup.specs.declared.Seen.{Seen}
 use Rattle.lookup.specs.declared.Looked.{Looked}
-use Rattle.lookup.specs.Turns.{refused_by}
 use Rattle.plans.specs.declared.Answer.{Answer}
 use Rattle.plans.specs.declared.Aim.{Aim}
 use Rattle.plans.specs.declared.Lent.{Lent}
@@ -20,18 +19,12 @@ use Rattle.plans.specs.declared.First.{First}
 use Rattle.plans.specs.declared.Then.{Then}
 use Rattle.plans.specs.declared.Plan.{Plan}
 use Rattle.plans.specs.Answers.{starts_anew}
-use Rattle.plans.specs.Writes.{value_lent, first, ends, refuses}
+use Rattle.plans.specs.Writes.{value_lent, first, ends}
 use Rattle.plans.specs.Fits.{record_fits, edit_fits, edits_fit, room_fits, seen_fits, lent_to_append, lent_for, value_short, then_fits, answer_rests, rests}
-use Rattle.planning.specs.Planning.{writes, gives, anew, place_plan, append_plan, plan, given_plan}
+use Rattle.planning.specs.Planning.{writes, gives, anew, place_plan, plan, given_plan}
 use Rattle.plans.proofs.Facts.{PlanFits, join, begins_fits, ends_fits}
 use Rattle.planning.proofs.Shapes.{renews, Shape, is_refused, is_given, is_removed, is_placed, is_anew, plan_shape}
 use Rattle.planning.proofs.Gathered.{by_room}
-
--- An end that is not through all regions is append's refusal.
-pub not_through : (looked : Looked) → ((seen : Seen) → looked ≡ Looked.Through seen → ⊥) → append_plan looked ≡ refuses (refused_by looked)
-not_through (Looked.Live r x) k = refl
-not_through (Looked.Bad f p) k = refl
-not_through (Looked.Through seen) k = absurd (k seen refl)
 
 -- What a plan keeps before its value is given: it may rest, or it gives one. `Sound` is `PlanFits` with this in place of `rests`.
 abbrev pub settles : Lent → First → Then → Bool

@@ -1,6 +1,6 @@
 -- The plan of an operation after its lookup: a refusal, an answer, or edits and what follows them. One row for each aim in `need_of` and in `plan`,
 -- and one in `lent_for` (plans, Fits).
-use Rattle.std.specs.Prelude.{ℕ, Bool, true, false, ◌&&◌, cond}
+use Rattle.std.specs.Prelude.{ℕ, Bool, true, false, ◌&&◌, cond, Result, Err, Ok}
 use Rattle.format.specs.declared.Record.{Record}
 use Rattle.format.specs.declared.Removal.{Removal}
 use Rattle.format.specs.Layout.{record_length}
@@ -39,9 +39,9 @@ abbrev pub anew : ℕ → Plan
 anew n = record { edits = Edits.Erases 0 n; next = look Aim.Append }
 
 -- R5.2: a live record decides, and its value is given. A bad place decides, or no region: the refusal.
-abbrev pub get_plan : Hit → Plan
-get_plan (Hit.Live r x) = gives r x false
-get_plan (Hit.Refused w) = refuses w
+abbrev pub get_plan : Result Hit Refusal → Plan
+get_plan (Ok h) = gives h.region h.rec false
+get_plan (Err w) = refuses w
 
 -- R5.4: no region has room: FlashFull. A byte of the record's place there is not 255: CorruptData, and no other region is tried. Else one write
 -- puts the record at o: Written.
@@ -57,14 +57,14 @@ append_plan (Looked.Bad f p) = refuses (refused_by (Looked.Bad f p))
 append_plan (Looked.Through seen) = place_plan seen.room
 
 -- R5.5, R5.6: refused as get is by a bad place or by no region. Else the record that decides is made dead by its one write: Written.
-abbrev pub remove_plan : Removal → Hit → Plan
-remove_plan how (Hit.Live r x) = writes (Edits.One (Edit.Kill how r x))
-remove_plan how (Hit.Refused w) = refuses w
+abbrev pub remove_plan : Removal → Result Hit Refusal → Plan
+remove_plan how (Ok h) = writes (Edits.One (Edit.Kill how h.region h.rec))
+remove_plan how (Err w) = refuses w
 
 -- R5.9: a get of the main key into an empty buffer. A lookup that finds none is refused by 4, 7 or 8, and every region is erased.
-abbrev pub initialise_plan : ℕ → Hit → Plan
-initialise_plan n (Hit.Live r x) = gives r x true
-initialise_plan n (Hit.Refused w) = anew n
+abbrev pub initialise_plan : ℕ → Result Hit Refusal → Plan
+initialise_plan n (Ok h) = gives h.region h.rec true
+initialise_plan n (Err w) = anew n
 
 -- R5.2, R5.3, R5.5, R5.6, R5.9: what each operation does after its lookup
 abbrev pub plan : Aim → ℕ → Looked → Plan

@@ -57,12 +57,12 @@ fn begin_anew(n: usize) -> Plan
     }
 }
 
-fn get_plan(hit: Hit) -> Plan
+fn get_plan(hit: Result<Hit, Refusal>) -> Plan
     ensures { result ≡ get_plan hit }
 {
     match hit {
-        Hit::Live { region, rec } => give(region, rec, false),
-        Hit::Refused(refusal) => plans::refuse(refusal),
+        Ok(hit) => give(hit.region, hit.rec, false),
+        Err(refusal) => plans::refuse(refusal),
     }
 }
 
@@ -89,21 +89,21 @@ pub fn append_plan(looked: Looked) -> Plan
     place_plan(room)
 }
 
-pub fn remove_plan(how: Removal, hit: Hit) -> Plan
+pub fn remove_plan(how: Removal, hit: Result<Hit, Refusal>) -> Plan
     ensures { result ≡ remove_plan how hit }
 {
     match hit {
-        Hit::Live { region, rec } => write_one(Edit::Kill { how, region, rec }),
-        Hit::Refused(refusal) => plans::refuse(refusal),
+        Ok(Hit { region, rec }) => write_one(Edit::Kill { how, region, rec }),
+        Err(refusal) => plans::refuse(refusal),
     }
 }
 
-fn initialise_plan(n: usize, hit: Hit) -> Plan
+fn initialise_plan(n: usize, hit: Result<Hit, Refusal>) -> Plan
     ensures { result ≡ initialise_plan n hit }
 {
     match hit {
-        Hit::Live { region, rec } => give(region, rec, true),
-        Hit::Refused(_) => begin_anew(n),
+        Ok(hit) => give(hit.region, hit.rec, true),
+        Err(_) => begin_anew(n),
     }
 }
 

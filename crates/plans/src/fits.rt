@@ -188,19 +188,14 @@ fn then_fits(s: usize, n: usize, lent: Lent, next: Then) -> bool
     }
 }
 
-// Whether an answer may follow: after an edit no refusal does, and every refusal has a number that is not 0.
+// Whether an answer may follow: after an edit no refusal does.
 fn answer_rests(first: First, answer: Answer) -> bool
     ensures { result ≡ answer_rests first answer }
 {
     let First::Do(_) = first else {
         return true;
     };
-    match answer {
-        Answer::Complete(_) => true,
-        Answer::Written => true,
-        Answer::Freed(_) => true,
-        Answer::Refused(refusal) => refusal.number() == 0,
-    }
+    !matches!(answer, Answer::Refused(_))
 }
 
 // Whether an operation may rest before what follows.

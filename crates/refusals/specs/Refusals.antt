@@ -1,12 +1,11 @@
 -- The refusals of the store, by their numbers, and those that come before anything is read.
-use Rattle.std.specs.Prelude.{ℕ, Bool, not, cond, List, [], ◌∷◌, ltb}
+use Rattle.std.specs.Prelude.{ℕ, Bool, not, cond, List, [], ◌∷◌, ltb, Result, Ok, Err}
 use Rattle.chip.specs.Geometry.{geometry}
 use Rattle.probe.specs.Probe.{allowed_key}
 use Rattle.format.specs.declared.Fault.{Fault}
 use Rattle.format.specs.declared.Fault.TheVariants.{UnsupportedVersion, CorruptData}
 use Rattle.format.specs.Layout.{edition, largest_value}
 use Rattle.refusals.specs.declared.Refusal.{Refusal}
-use Rattle.refusals.specs.declared.Check.{Check}
 
 -- R6.1 to R6.12: the refusal of R6.k has the number k.
 abbrev pub number : Refusal → ℕ
@@ -30,15 +29,15 @@ refusal_of CorruptData = Refusal.CorruptData
 
 -- R7.2: 1, then 2, then 3: the first that applies to the geometry, the key and the value's length. R6.1: S, N or the image's length is not as
 -- R1.2 has it. R6.2: the key is 0 or 2^64 - 1. R6.3: the value has more than 4,079 bytes.
-abbrev pub refusal_under : Bool → ℕ → ℕ → Check
+abbrev pub refusal_under : Bool → ℕ → ℕ → Result (Unit {0}) Refusal
 refusal_under shaped key len =
-    cond (not shaped) (Check.Refused Refusal.BadGeometry)
-    (cond (not (allowed_key key)) (Check.Refused Refusal.BadKey)
-    (cond (ltb (largest_value edition) len) (Check.Refused Refusal.ObjectTooLarge)
-    Check.Fine))
+    cond (not shaped) (Err Refusal.BadGeometry)
+    (cond (not (allowed_key key)) (Err Refusal.BadKey)
+    (cond (ltb (largest_value edition) len) (Err Refusal.ObjectTooLarge)
+    (Ok tt)))
 
 -- R7.2: the first of them in the one-call form, where the image's length is a part of the geometry.
-unfoldable pub first_refusal : List ℕ → ℕ → ℕ → ℕ → ℕ → Check
+unfoldable pub first_refusal : List ℕ → ℕ → ℕ → ℕ → ℕ → Result (Unit {0}) Refusal
 first_refusal image s n key len = refusal_under (geometry image s n) key len
 
 -- R6.9: what a refusal carries: BufferTooSmall the value's length, and the others nothing.

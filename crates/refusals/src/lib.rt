@@ -25,17 +25,19 @@ pub enum Refusal {
     FlashFailed,
 }
 
-impl Refusal {
-    // A bad place's refusal.
-    pub fn of(fault: Fault) -> Refusal
-        ensures { result ≡ refusal_of fault }
-    {
+// A bad place's refusal.
+impl From<Fault> for Refusal {
+    ghost from_gives = { λ fault r. r ≡ refusal_of fault };
+
+    fn from(fault: Fault) -> Refusal {
         match fault {
             Fault::UnsupportedVersion => Refusal::UnsupportedVersion,
             Fault::CorruptData => Refusal::CorruptData,
         }
     }
+}
 
+impl Refusal {
     // Its number: that of R6.k is k.
     pub fn number(self) -> u32
         ensures { result ≡ number self }
@@ -61,47 +63,31 @@ impl Refusal {
         ensures { result ≡ get_or (value_of self) 0 0 }
     {
         match self {
-            Refusal::BadGeometry => 0,
-            Refusal::BadKey => 0,
-            Refusal::ObjectTooLarge => 0,
-            Refusal::KeyNotFound => 0,
-            Refusal::KeyAlreadyExists => 0,
-            Refusal::FlashFull => 0,
-            Refusal::UnsupportedVersion => 0,
-            Refusal::CorruptData => 0,
             Refusal::BufferTooSmall(len) => len,
-            Refusal::InvalidCheckSum => 0,
-            Refusal::BadCall => 0,
-            Refusal::FlashFailed => 0,
+            _ => 0,
         }
     }
 }
 
-// R7.2: whether geometry, key and size are allowed; else the first of refusals 1, 2 and 3.
-#[derive(Clone, Copy)]
-pub enum Check {
-    Fine,
-    Refused(Refusal),
-}
-
-// Refusals 1, 2 and 3, in this order: of a geometry that is allowed or not, a key, and a value's length.
-pub fn refusal_under(shaped: bool, key: u64, len: usize) -> Check
+// R7.2: refusals 1, 2 and 3, in this order: of a geometry that is allowed or not, a key, and a value's length.
+pub fn refusal_under(shaped: bool, key: u64, len: usize) -> Result<(), Refusal>
     ensures { result ≡ refusal_under shaped key len }
 {
     if !shaped {
-        return Check::Refused(Refusal::BadGeometry);
+        return Err(Refusal::BadGeometry);
     }
     if !probe::allowed_key(key) {
-        return Check::Refused(Refusal::BadKey);
+        return Err(Refusal::BadKey);
     }
     if Record::LARGEST - Record::LEAST < len {
-        return Check::Refused(Refusal::ObjectTooLarge);
+        return Err(Refusal::ObjectTooLarge);
     }
-    Check::Fine
+    Ok(())
 }
 
 // What is refused before anything is read.
-pub fn first_refusal(image: &[u8], s: usize, n: usize, key: u64, len: usize) -> Check
+#[tactic(auto, unfolding(crate::specs::Refusals::first_refusal))]
+pub fn first_refusal(image: &[u8], s: usize, n: usize, key: u64, len: usize) -> Result<(), Refusal>
     ensures { result ≡ first_refusal image.now s n key len }
 {
     refusal_under(chip::fits(image, s, n), key, len)

@@ -11,7 +11,6 @@ ghost use Rattle.running.specs.Starts.{started};
 ghost use Rattle.running.specs.Waits.{with_plan};
 
 use plans::{Answer, Edit, Lent, Plan};
-use refusals::Refusal;
 pub use ruled::RuledOp;
 pub use starts::{
     start_append, start_collect, start_get, start_initialise, start_invalidate, start_zeroise,
@@ -59,13 +58,6 @@ impl Op {
             plan,
         }
     }
-}
-
-// R8.2: a start hands out a fresh operation, or refuses at once and runs nothing.
-#[derive(Clone, Copy)]
-pub enum Start {
-    Runs(Op),
-    Refused(Refusal),
 }
 
 // R8.5: what the host says at a step: "begin" at the first, then of the service that was asked for last.

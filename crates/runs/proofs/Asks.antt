@@ -12,7 +12,6 @@ use Rattle.format.specs.declared.Removal.{Removal}
 use Rattle.format.specs.Layout.{record_length}
 use Rattle.lookup.specs.declared.Room.{Room}
 use Rattle.lookup.specs.declared.Looked.{Looked}
-use Rattle.lookup.specs.declared.Hit.{Hit}
 use Rattle.plans.specs.declared.Edit.{Edit}
 use Rattle.plans.specs.declared.Plan.{Plan}
 use Rattle.planning.specs.Planning.{place_plan, anew, append_plan, remove_plan}
@@ -20,6 +19,7 @@ use Rattle.planning.proofs.Places.{by_place}
 use Rattle.running.specs.declared.Request.{Request}
 use Rattle.running.specs.Waits.{request_edit}
 use Rattle.runs.specs.Services.{edits}
+use Rattle.lookup.specs.Turns.{hits}
 
 -- R9.2: append's one write, of the whole record, at its place in the buffer and in the image; or none, where it is refused.
 pub append_asks : (s len : ℕ) (looked : Looked) → (edits s len (append_plan looked) ≡ [])
@@ -35,11 +35,11 @@ append_asks s len (Looked.Through seen) = by_place (λ (p : Plan). (edits s len 
 
 -- R9.3: invalidate's one write, of byte 1 of the record.
 pub invalidate_asks : (s r : ℕ) (x : Record)
-    → edits s 0 (remove_plan Removal.Invalidate (Hit.Live r x)) ≡ Request.Write (x.at + 1) (x.at + 1 + 1) (r * s + (x.at + 1)) ∷ []
+    → edits s 0 (remove_plan Removal.Invalidate (hits r x)) ≡ Request.Write (x.at + 1) (x.at + 1 + 1) (r * s + (x.at + 1)) ∷ []
 invalidate_asks s r x = refl
 
 -- R9.3: zeroise's one write, over the whole record.
-pub zeroise_asks : (s r : ℕ) (x : Record) → edits s 0 (remove_plan Removal.Zeroise (Hit.Live r x)) ≡ Request.Write x.at (x.at + x.len) (r * s + x.at) ∷ []
+pub zeroise_asks : (s r : ℕ) (x : Record) → edits s 0 (remove_plan Removal.Zeroise (hits r x)) ≡ Request.Write x.at (x.at + x.len) (r * s + x.at) ∷ []
 zeroise_asks s r x = λ i. Request.Write (add-zero x.at i) (add-zero x.at i + x.len) (r * s + add-zero x.at i) ∷ []
 
 -- R9.5: initialise that must erase: erases of all regions in number order.

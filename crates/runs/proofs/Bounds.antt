@@ -7,6 +7,7 @@ use mathlib.Core.Path.{◌≡◌, refl}
 use mathlib.Core.Bool.{Bool, true, false, cond}
 use mathlib.Core.List.{List, [], ◌∷◌, ◌++◌, map}
 use lib.ListN.{length, length-append, length-map}
+use Rattle.std.specs.Prelude.{Result, Ok, Err}
 use Rattle.chip.specs.Chip.{erased}
 use Rattle.chip.specs.Geometry.{geometry, Fits, region_of, erase_region, numbers}
 use Rattle.chip.proofs.Image.{geometry_fits}
@@ -14,7 +15,6 @@ use Rattle.probe.specs.Probe.{probes}
 use Rattle.probe.proofs.Theorems.{probes-length}
 use Rattle.format.specs.declared.Removal.{Removal}
 use Rattle.format.specs.Layout.{record_length}
-use Rattle.refusals.specs.declared.Check.{Check}
 use Rattle.lookup.specs.declared.Need.{Need}
 use Rattle.lookup.specs.declared.Room.{Room}
 use Rattle.lookup.specs.declared.Seen.{Seen}
@@ -38,6 +38,7 @@ use Rattle.running.specs.Waits.{request_edit}
 use Rattle.stepwise.specs.Ahead.{most}
 use Rattle.stepwise.proofs.Falls.{numbers-length}
 use Rattle.runs.specs.Services.{unless_refused, edits, collect_services, anew_services, services}
+use Rattle.refusals.specs.declared.Refusal.{Refusal}
 
 read_bound : (seen : Seen) (key : ℕ) (need : Need) (s : ℕ) (image rs : List ℕ) → length (read_from seen key need s image rs) ≤ length rs
 unfolding read_from
@@ -111,20 +112,20 @@ module _ (key s n : ℕ) (z : 1 ≤ n) where
   anew_bound = erases_bound _ (append_bound 0 (erased (n * s)))
 
 -- what is not refused has the chip's size
-fine_fits : (image : List ℕ) (s n key len : ℕ) → first_refusal image s n key len ≡ Check.Fine → Fits image s n
+fine_fits : (image : List ℕ) (s n key len : ℕ) → first_refusal image s n key len ≡ Ok tt → Fits image s n
 unfolding first_refusal
 fine_fits image s n key len h = geometry_fits (go (geometry image s n) h)
   where
-    go : (t : Bool) → refusal_under t key len ≡ Check.Fine → t ≡ true
+    go : (t : Bool) → refusal_under t key len ≡ Ok tt → t ≡ true
     go true h = refl
     go false h = absurd (let z : ◌≡◌ {A = ℕ} 0 1 = cc in omega arith)
 
 unless_bound : (image : List ℕ) (s n key len m : ℕ) (asked : List Request) → (1 ≤ n → length asked ≤ m) → length (unless_refused (first_refusal image s n key len) asked) ≤ m
 unless_bound image s n key len m asked h = go (first_refusal image s n key len) refl
   where
-    go : (c : Check) → first_refusal image s n key len ≡ c → length (unless_refused c asked) ≤ m
-    go (Check.Refused w) e = omega arith
-    go Check.Fine e = h (fine_fits image s n key len e).shape.n_least
+    go : (c : Result (Unit {0}) Refusal) → first_refusal image s n key len ≡ c → length (unless_refused c asked) ≤ m
+    go (Err w) e = omega arith
+    go (Ok u) e = h (fine_fits image s n key len e).shape.n_least
 
 pub bound : (c : Call) (image : List ℕ) (s n : ℕ) → length (services c image s n) ≤ most c n
 unfolding services

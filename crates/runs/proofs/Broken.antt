@@ -6,6 +6,7 @@ use mathlib.Core.Path.{◌≡◌, refl, sym, ◌∙◌, ap, subst}
 use mathlib.Core.Bool.{Bool, true, false, cond}
 use mathlib.Core.List.{List, [], ◌∷◌}
 use lib.ListN.{length, take}
+use Rattle.std.specs.Prelude.{Result, Ok, Err}
 use Rattle.chip.specs.Every.{Every}
 use Rattle.chip.specs.Geometry.{Fits, numbers}
 use Rattle.plans.specs.Answers.{starts_anew}
@@ -19,16 +20,16 @@ use Rattle.bindings.proofs.Broken.{every_take}
 use Rattle.bindings.proofs.Lasting.{call_keeps, call_holds}
 use Rattle.bindings.proofs.Theorems.{erases_keep, collect_broken}
 use Rattle.running.specs.declared.Op.{Op}
-use Rattle.running.specs.declared.Start.{Start}
 use Rattle.stepwise.specs.Begins.{start_of}
 use Rattle.runs.specs.Host.{Host, Beat, failed, begun, drive, readies, Lends, lends_get, lends_append, lends_remove, lends_collect, lends_initialise}
 use Rattle.runs.specs.Services.{services, bytes_written, erases_of}
 use Rattle.runs.specs.Events.{Event, in_one, in_steps, fails, buffer_in, left_by, image_after_event, image_after_events, TypedIn, typed_one, typed_steps, typed_fails, call_of, SparesIn, its_call_spares, untouched, SparesThrough, Left, erased_some, as_after}
 use Rattle.runs.proofs.Runs.{run_middle, image_end}
 use Rattle.runs.proofs.Erases.{Writes, Middle, so_far, all_done, middle, call_writes}
+use Rattle.refusals.specs.declared.Refusal.{Refusal}
 
 module _ (c : Call) (op : Op) (image region value buffer : List ℕ) (s n : ℕ)
-    (starts : start_of c s n ≡ Start.Runs op) (fits : Fits image s n) (long : length region ≡ s) (lends : Lends c value buffer) where
+    (starts : start_of c s n ≡ Ok op) (fits : Fits image s n) (long : length region ≡ s) (lends : Lends c value buffer) where
   pub run_left : (beats : List Beat) → Left c image s n (drive s beats (begun op image region value buffer)).host.image
   run_left beats = subst (Left c image s n) (sym (run_middle c op image region value buffer s n starts fits long lends beats).1) (go (middle s (bytes_written c image s n) w.last (readies beats) image))
     where
@@ -90,14 +91,14 @@ module _ {s n : ℕ} {image : List ℕ} (w : WellFormed s n image) where
   event_left (in_one c) (typed_one t) = (t, as_after refl)
   event_left (in_steps c region beats) (typed_steps t l) = (t, go (start_of c s n) refl)
     where
-      go : (a : Start) → start_of c s n ≡ a → Left c image s n (left_by s c region beats (λ (h : Host). h) image a)
-      go (Start.Runs op) e = run_left c op image region (value_of c) (buffer_in c) s n e w.fits l (lends_own c) beats
-      go (Start.Refused r) e = none_done c
+      go : (a : Result Op Refusal) → start_of c s n ≡ a → Left c image s n (left_by s c region beats (λ (h : Host). h) image a)
+      go (Ok op) e = run_left c op image region (value_of c) (buffer_in c) s n e w.fits l (lends_own c) beats
+      go (Err r) e = none_done c
   event_left (fails c region beats bytes) (typed_fails t l) = (t, go (start_of c s n) refl)
     where
-      go : (a : Start) → start_of c s n ≡ a → Left c image s n (left_by s c region beats (failed bytes) image a)
-      go (Start.Runs op) e = run_left c op image region (value_of c) (buffer_in c) s n e w.fits l (lends_own c) beats
-      go (Start.Refused r) e = none_done c
+      go : (a : Result Op Refusal) → start_of c s n ≡ a → Left c image s n (left_by s c region beats (failed bytes) image a)
+      go (Ok op) e = run_left c op image region (value_of c) (buffer_in c) s n e w.fits l (lends_own c) beats
+      go (Err r) e = none_done c
 
   pub event_well : (v : Event) → TypedIn s v → WellFormed s n (image_after_event s n v image)
   event_well v t = let (typed, l) = event_left v t in left_well (call_of v) typed l

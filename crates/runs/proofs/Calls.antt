@@ -9,6 +9,7 @@ use mathlib.Core.List.{List, [], ◌++◌, map, append-nil}
 use lib.Dec.{eqb}
 use lib.ListN.{length, take}
 use borrow.Author.Tests.{eq-eqb}
+use Rattle.std.specs.Prelude.{Result, Ok}
 use Rattle.chip.specs.Chip.{erased}
 use Rattle.chip.specs.Every.{Every}
 use Rattle.chip.specs.Geometry.{sized, geometry, Fits, region_of, erase_region, numbers}
@@ -18,13 +19,12 @@ use Rattle.format.specs.declared.Removal.{Removal}
 use Rattle.format.specs.declared.Fault.{Fault}
 use Rattle.format.specs.Layout.{record_bytes}
 use Rattle.refusals.specs.declared.Refusal.{Refusal}
-use Rattle.refusals.specs.declared.Check.{Check}
 use Rattle.lookup.specs.declared.Need.{Need}
 use Rattle.lookup.specs.declared.Room.{Room}
 use Rattle.lookup.specs.declared.Looked.{Looked}
 use Rattle.lookup.specs.declared.Hit.{Hit}
 use Rattle.refusals.specs.Refusals.{refusal_of, refusal_under, first_refusal}
-use Rattle.lookup.specs.Turns.{lookup_in, hit_by, hit_after, hit_of}
+use Rattle.lookup.specs.Turns.{lookup_in, hit_by, hit_after, hit_of, hits}
 use Rattle.plans.specs.declared.Answer.{Answer}
 use Rattle.plans.specs.declared.Aim.{Aim}
 use Rattle.plans.specs.declared.Lent.{Lent}
@@ -130,11 +130,11 @@ first_same image s n key len e = ap (λ (t : Bool). refusal_under t key len) (go
     go true = eq-eqb (length image) (n * s) e
     go false = refl
 
-first_fine : {image : List ℕ} {s n : ℕ} (key len : ℕ) → Fits image s n → start_refusal s n key len ≡ Check.Fine → first_refusal image s n key len ≡ Check.Fine
+first_fine : {image : List ℕ} {s n : ℕ} (key len : ℕ) → Fits image s n → start_refusal s n key len ≡ Ok tt → first_refusal image s n key len ≡ Ok tt
 first_fine {image} {s} {n} key len f h = first_same image s n key len f.size ∙ h
 
 -- What the lookup's end is to get, the removals and initialise.
-module _ (image : List ℕ) (s n key : ℕ) (fine : first_refusal image s n key 0 ≡ Check.Fine) where
+module _ (image : List ℕ) (s n key : ℕ) (fine : first_refusal image s n key 0 ≡ Ok tt) where
   hit_is : hit_by (lookup_in key Need.Nothing s image (probes key n)) ≡ hit_of image s n key
   unfolding hit_of
   hit_is = ap (hit_after image s n key) (sym fine)
@@ -144,17 +144,17 @@ module _ (image : List ℕ) (s n key : ℕ) (fine : first_refusal image s n key 
   got_is buffer e = ap (got_by s image buffer) (ap hit_by (sym e) ∙ hit_is)
 
 -- Where no refusal is known before, the services are those that are asked for.
-fine_comes : {s n key : ℕ} {lent : Lent} {value bytes : List ℕ} {p : Plan} {image buffer : List ℕ} {c : Check} (asked : List Request) (o : Check → Out) → c ≡ Check.Fine
-    → Comes s n key lent value bytes p image buffer asked (o Check.Fine) → Comes s n key lent value bytes p image buffer (unless_refused c asked) (o c)
+fine_comes : {s n key : ℕ} {lent : Lent} {value bytes : List ℕ} {p : Plan} {image buffer : List ℕ} {c : Result (Unit {0}) Refusal} (asked : List Request) (o : Result (Unit {0}) Refusal → Out) → c ≡ Ok tt
+    → Comes s n key lent value bytes p image buffer asked (o (Ok tt)) → Comes s n key lent value bytes p image buffer (unless_refused c asked) (o c)
 fine_comes {s} {n} {key} {lent} {value} {bytes} {p} {image} {buffer} asked o fine h =
-    subst (λ (c : Check). Comes s n key lent value bytes p image buffer (unless_refused c asked) (o c)) (sym fine) h
+    subst (λ (c : Result (Unit {0}) Refusal). Comes s n key lent value bytes p image buffer (unless_refused c asked) (o c)) (sym fine) h
 
 -- get's reads, which are initialise's
 abbrev get_reads : ℕ → List ℕ → ℕ → ℕ → List Request
 get_reads key image s n = reads Aim.Get 0 key image s n
 
 -- Get.
-module _ (s n key : ℕ) (value image buffer : List ℕ) (f : Fits image s n) (fine : first_refusal image s n key 0 ≡ Check.Fine) where
+module _ (s n key : ℕ) (value image buffer : List ℕ) (f : Fits image s n) (fine : first_refusal image s n key 0 ≡ Ok tt) where
   abbrev gotten : Got → Out
   gotten g = out g.answer image g.buffer
 
@@ -188,7 +188,7 @@ module _ (s n key : ℕ) (value image buffer : List ℕ) (f : Fits image s n) wh
 
   -- the append of an empty value to the blank image
   abbrev appended : Done
-  appended = append_after blank s n key [] Check.Fine
+  appended = append_after blank s n key [] (Ok tt)
 
   -- the main key's record
   abbrev main : List ℕ
@@ -218,11 +218,11 @@ module _ (s n key : ℕ) (value image buffer : List ℕ) (f : Fits image s n) wh
       (leaves (cond (starts_anew answer) appended (record { answer = answer; image = image })) buffer) r looked
 
   initialise_ends : (r : ℕ) (looked : Looked) → Near r looked → Initialised r looked (got_by s image [] (hit_by looked)).answer
-  initialise_ends r looked (near_live {x = x}) = let answer : Answer = (got_by s image [] (Hit.Live r x)).answer in renews (starts_anew answer) answer
+  initialise_ends r looked (near_live {x = x}) = let answer : Answer = (got_by s image [] (hits r x)).answer in renews (starts_anew answer) answer
   initialise_ends r (Looked.Bad g p) near_bad = rw (fault_renews g) anew_comes
   initialise_ends r looked near_end = anew_comes
 
-  module _ (fine : first_refusal image s n key 0 ≡ Check.Fine) where
+  module _ (fine : first_refusal image s n key 0 ≡ Ok tt) where
     abbrev first_answer : Answer
     first_answer = (get_of image s n key []).answer
 
@@ -237,20 +237,20 @@ module _ (s n key : ℕ) (value image buffer : List ℕ) (f : Fits image s n) wh
 abbrev pub out_of : Call → List ℕ → ℕ → ℕ → List ℕ → Out
 out_of c image s n buffer = out (answer_of c image s n) (image_after c image s n) (buffer_of c image s n buffer)
 
-pub comes : (c : Call) (s n : ℕ) (value image buffer : List ℕ) → Fits image s n → Lends c value buffer → start_refusal s n (key_carried c) (value_lent (lent_of c)) ≡ Check.Fine
+pub comes : (c : Call) (s n : ℕ) (value image buffer : List ℕ) → Fits image s n → Lends c value buffer → start_refusal s n (key_carried c) (value_lent (lent_of c)) ≡ Ok tt
     → Comes s n (key_carried c) (lent_of c) value (bytes_written c image s n) (follows (first_of c)) image buffer (services c image s n) (out_of c image s n buffer)
 unfolding services append_of remove_of collect_of initialise_of
 comes (get key same) s n value image buffer f lends_get h =
     let fine = first_fine key 0 f h in
-    fine_comes _ (λ (c : Check). out_of (get key buffer) image s n buffer) fine (get_comes s n key value image buffer f fine)
+    fine_comes _ (λ (c : Result (Unit {0}) Refusal). out_of (get key buffer) image s n buffer) fine (get_comes s n key value image buffer f fine)
 comes (append key same) s n value image buffer f lends_append h =
-    fine_comes _ (λ (c : Check). leaves (append_after image s n key value c) buffer) (first_fine key (length value) f h)
+    fine_comes _ (λ (c : Result (Unit {0}) Refusal). leaves (append_after image s n key value c) buffer) (first_fine key (length value) f h)
     (carries_out s n key (Lent.Value (length value)) value _ f.shape.n_least _ append_answers image buffer (λ looked e. append_serves s n key (Lent.Value (length value)) value looked))
 comes (remove how key) s n value image buffer f lends_remove h =
     let fine = first_fine key 0 f h in
-    fine_comes _ (λ (c : Check). leaves (remove_by how s image key (hit_of image s n key)) buffer) fine
+    fine_comes _ (λ (c : Result (Unit {0}) Refusal). leaves (remove_by how s image key (hit_of image s n key)) buffer) fine
     (subst (Comes s n key Lent.Nothing value (bytes_written (remove how key) image s n) (follows (first_of (remove how key))) image buffer _)
-    (ap (λ (hit : Hit). leaves (remove_by how s image key hit) buffer) (hit_is image s n key fine))
+    (ap (λ (hit : Result Hit Refusal). leaves (remove_by how s image key hit) buffer) (hit_is image s n key fine))
     (carries_out s n key Lent.Nothing value _ f.shape.n_least _ (remove_answers how) image buffer
     (λ looked e. rw (sym (hit_is image s n key fine), e) (remove_serves s n key Lent.Nothing value how looked))))
 comes collect s n value image buffer f lends_collect h =
@@ -260,8 +260,8 @@ comes collect s n value image buffer f lends_collect h =
     (sym (fits_geometry f)) (sweeps s n 1 Lent.Nothing value [] buffer image f.shape.n_least)
 comes (initialise key) s n value image buffer f lends_initialise h =
     let answer : Answer = (get_of image s n key []).answer in
-    let done : Check → Out = λ d. leaves (cond (starts_anew answer) (append_after (erased (n * s)) s n key [] d) (record { answer = answer; image = image })) buffer in
+    let done : Result (Unit {0}) Refusal → Out = λ d. leaves (cond (starts_anew answer) (append_after (erased (n * s)) s n key [] d) (record { answer = answer; image = image })) buffer in
     let fine = first_fine key 0 f h in
     let clean = first_fine key 0 (fits_blank f.shape) h in
-    fine_comes _ (λ (c : Check). done (first_refusal (erased (n * s)) s n key 0)) fine
+    fine_comes _ (λ (c : Result (Unit {0}) Refusal). done (first_refusal (erased (n * s)) s n key 0)) fine
     (subst (Comes s n key Lent.Nothing value (record_bytes key []) (follows (first_of (initialise key))) image buffer _) (ap done (sym clean)) (initialise_comes s n key value image buffer f fine))

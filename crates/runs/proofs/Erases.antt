@@ -7,12 +7,12 @@ use mathlib.Core.Bool.{Bool, true, false, cond}
 use mathlib.Core.List.{List, [], ◌∷◌, ◌++◌, map, append-nil}
 use mathlib.Core.Logic.{⊎_elim}
 use lib.ListN.{length, take}
+use Rattle.std.specs.Prelude.{Result, Ok, Err}
 use Rattle.chip.specs.Chip.{erased}
 use Rattle.chip.specs.Geometry.{geometry, region_of, erase_region, numbers}
 use Rattle.chip.proofs.Image.{region_erased_other}
 use Rattle.probe.specs.Probe.{probes}
 use Rattle.format.specs.declared.Removal.{Removal}
-use Rattle.refusals.specs.declared.Check.{Check}
 use Rattle.refusals.specs.Refusals.{first_refusal}
 use Rattle.lookup.specs.declared.Looked.{Looked}
 use Rattle.lookup.specs.Turns.{lookup_in, regions_read, hit_by}
@@ -29,6 +29,7 @@ use Rattle.runs.specs.Services.{unless_refused, reads, edits, reads_and_edits, c
 use Rattle.runs.proofs.Plans.{services_on, services_one}
 use Rattle.runs.proofs.Asks.{append_asks, anew_asks}
 use Rattle.runs.proofs.Refuses.{first_anew}
+use Rattle.refusals.specs.declared.Refusal.{Refusal}
 
 -- A list in which a write is the last service, if there is one.
 pub data LastWrite : List Request → Type 0 where
@@ -148,9 +149,9 @@ module _ (s : ℕ) (image : List ℕ) where
       go (Verdict.Bad f p) ih = record { last = a_read nothing; which = refl }
 
 -- Every call.
-unless_writes : (c : Check) {qs : List Request} {ys : List ℕ} → (c ≡ Check.Fine → Writes qs ys) → ((w : _) → c ≡ Check.Refused w → ys ≡ []) → Writes (unless_refused c qs) ys
-unless_writes Check.Fine h n = h refl
-unless_writes (Check.Refused w) h n = rw (n w refl) none_erased
+unless_writes : (c : Result (Unit {0}) Refusal) {qs : List Request} {ys : List ℕ} → (c ≡ Ok tt → Writes qs ys) → ((w : _) → c ≡ Err w → ys ≡ []) → Writes (unless_refused c qs) ys
+unless_writes (Ok u) h n = h refl
+unless_writes (Err w) h n = rw (n w refl) none_erased
 
 pub call_writes : (c : Call) (image : List ℕ) (s n : ℕ) → Writes (services c image s n) (erases_of c image s n)
 unfolding services

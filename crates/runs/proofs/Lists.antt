@@ -7,6 +7,7 @@ use mathlib.Core.Path.{◌≡◌, refl, sym, ◌∙◌, ap, subst}
 use mathlib.Core.Bool.{Bool, true, false, cond}
 use mathlib.Core.List.{List, [], ◌∷◌, ◌++◌, map, append-nil, Memᴰ}
 use lib.ListN.{length}
+use Rattle.std.specs.Prelude.{Result}
 use Rattle.chip.specs.Chip.{erased}
 use Rattle.chip.specs.Geometry.{Fits, region_of, erase_region, numbers}
 use Rattle.chip.proofs.Image.{region_erased_other, fits_geometry, fits_blank}
@@ -18,7 +19,6 @@ use Rattle.format.specs.Layout.{record_length, kill_place, kill_length}
 use Rattle.region.specs.declared.Event.{Event}
 use Rattle.region.specs.declared.Want.{Want}
 use Rattle.region.specs.Walk.{event_in}
-use Rattle.refusals.specs.declared.Check.{Check}
 use Rattle.refusals.specs.Refusals.{first_refusal}
 use Rattle.lookup.specs.declared.Need.{Need}
 use Rattle.lookup.specs.declared.Room.{Room}
@@ -51,6 +51,7 @@ use Rattle.running.specs.declared.Request.{Request}
 use Rattle.runs.specs.Services.{unless_refused, reads, edits, reads_and_edits, collect_services, anew_services, services, UpTo, live_decides, bad_decides, none_decides, Sweeps}
 use Rattle.runs.proofs.Plans.{services_on, services_one}
 use Rattle.runs.proofs.Asks.{anew_asks}
+use Rattle.refusals.specs.declared.Refusal.{Refusal}
 
 -- A lookup's reads.
 module _ (image : List ℕ) (s key : ℕ) where
@@ -99,15 +100,15 @@ module _ (image : List ℕ) (s key : ℕ) where
 module _ (image : List ℕ) (s n key : ℕ) where
   unfold_get : (buffer : List ℕ) → Reads image s n (get key buffer) → services (get key buffer) image s n ≡ reads Aim.Get 0 key image s n
   unfolding services first_refusal
-  unfold_get buffer h = ap (λ (c : Check). unless_refused c (reads Aim.Get 0 key image s n)) (early_is {c = get key buffer} (Early.fine h))
+  unfold_get buffer h = ap (λ (c : Result (Unit {0}) Refusal). unless_refused c (reads Aim.Get 0 key image s n)) (early_is {c = get key buffer} (Early.fine h))
 
   unfold_append : (value : List ℕ) → Reads image s n (append key value) → services (append key value) image s n ≡ reads_and_edits Aim.Append (length value) key image s n
   unfolding services first_refusal
-  unfold_append value h = ap (λ (c : Check). unless_refused c (reads_and_edits Aim.Append (length value) key image s n)) (early_is {c = append key value} (Early.fine h))
+  unfold_append value h = ap (λ (c : Result (Unit {0}) Refusal). unless_refused c (reads_and_edits Aim.Append (length value) key image s n)) (early_is {c = append key value} (Early.fine h))
 
   unfold_remove : (how : Removal) → Reads image s n (remove how key) → services (remove how key) image s n ≡ reads_and_edits (Aim.Remove how) 0 key image s n
   unfolding services first_refusal
-  unfold_remove how h = ap (λ (c : Check). unless_refused c (reads_and_edits (Aim.Remove how) 0 key image s n)) (early_is {c = remove how key} (Early.fine h))
+  unfold_remove how h = ap (λ (c : Result (Unit {0}) Refusal). unless_refused c (reads_and_edits (Aim.Remove how) 0 key image s n)) (early_is {c = remove how key} (Early.fine h))
 
   unfold_initialise : Reads image s n (initialise key)
       → services (initialise key) image s n ≡ services (get key []) image s n ++ cond (starts_anew (get_of image s n key []).answer) (anew_services key s n) []
@@ -116,7 +117,7 @@ module _ (image : List ℕ) (s n key : ℕ) where
       let fine = early_is {c = initialise key} (Early.fine h) in
       let all : List Request = reads Aim.Initialise 0 key image s n in
       let anew : List Request = cond (starts_anew (get_of image s n key []).answer) (anew_services key s n) [] in
-      ap (λ (c : Check). unless_refused c (all ++ anew)) fine ∙ ap (λ (c : Check). unless_refused c all ++ anew) (sym fine)
+      ap (λ (c : Result (Unit {0}) Refusal). unless_refused c (all ++ anew)) fine ∙ ap (λ (c : Result (Unit {0}) Refusal). unless_refused c all ++ anew) (sym fine)
 
   pub get_list : (buffer : List ℕ) → Reads image s n (get key buffer)
       → (rs : List ℕ) × UpTo image s key (probes key n) rs × (services (get key buffer) image s n ≡ map Request.Read rs)

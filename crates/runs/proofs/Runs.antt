@@ -8,13 +8,13 @@ use mathlib.Core.List.{List}
 use lib.ListN.{length, take, replicate}
 use lib.Seq.{take_all}
 use borrow.Author.Tests.{eq-eqb}
+use Rattle.std.specs.Prelude.{Ok}
 use Rattle.chip.specs.Geometry.{Fits}
 use Rattle.plans.specs.declared.Lent.{Lent}
 use Rattle.plans.specs.declared.Then.{Then}
 use Rattle.plans.specs.Writes.{follows}
 use Rattle.store.specs.Call.{Call, image_after}
 use Rattle.running.specs.declared.Op.{Op}
-use Rattle.running.specs.declared.Start.{Start}
 use Rattle.running.specs.declared.Reply.{Reply}
 use Rattle.running.specs.declared.Request.{Request}
 use Rattle.running.specs.Starts.{started}
@@ -62,7 +62,7 @@ module _ (s n key : ℕ) (lent : Lent) (next : Then) (image region value buffer 
       }
 
 module _ (c : Call) (op : Op) (image region value buffer : List ℕ) (s n : ℕ)
-    (starts : start_of c s n ≡ Start.Runs op) (fits : Fits image s n) (long : length region ≡ s) (lends : Lends c value buffer) where
+    (starts : start_of c s n ≡ Ok op) (fits : Fits image s n) (long : length region ≡ s) (lends : Lends c value buffer) where
   fresh : Ruled (fresh_of c s n)
   fresh = subst Ruled (start_runs c s n op starts).is (start_ruled c s n starts)
 

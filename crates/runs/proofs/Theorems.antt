@@ -13,6 +13,7 @@ use mathlib.Core.Bool.{true, false}
 use mathlib.Core.List.{List, [], ◌∷◌, ◌++◌, map}
 use mathlib.Core.Logic.{inl}
 use lib.ListN.{length, take, drop, replicate}
+use Rattle.std.specs.Prelude.{Ok, Err}
 use Rattle.chip.specs.Chip.{Bytes, erased}
 use Rattle.chip.specs.Every.{Every}
 use Rattle.chip.specs.Geometry.{Fits, numbers}
@@ -35,7 +36,6 @@ use Rattle.bindings.specs.WellFormed.{WellFormed, Bound}
 use Rattle.bindings.specs.Calls.{Typed, Spares, OnlyCleared}
 use Rattle.bindings.proofs.Bits.{same_cleared}
 use Rattle.bindings.proofs.Theorems.{stays_well_formed, append_adds, initialise_makes_well_formed, get_finds, write_only_clears}
-use Rattle.running.specs.declared.Start.{Start}
 use Rattle.running.specs.declared.Request.{Request}
 use Rattle.stepwise.specs.Asked.{asks}
 use Rattle.stepwise.specs.Begins.{start_of, fresh_of}
@@ -67,7 +67,7 @@ any_at_most c image s n = le_trans (bound c image s n) (most_any c n)
 -- buffer are those of the call. That the image is well-formed is not needed.
 module _ (c : Call) (image region value buffer : List ℕ) (s n : ℕ) (reads : Reads image s n c) (long : length region ≡ s) (lends : Lends c value buffer) where
   -- R8.2: its start hands out this running operation, and the run begins with it.
-  pub starts : start_of c s n ≡ Start.Runs (fresh_of c s n)
+  pub starts : start_of c s n ≡ Ok (fresh_of c s n)
   starts = runs_else c s n (record { shape = reads.fits.shape; key_good = reads.key_good; not_large = reads.not_large })
 
   abbrev run : List Beat → Run
@@ -122,7 +122,7 @@ module _ (c : Call) (image region value buffer : List ℕ) (s n : ℕ) (reads : 
   broken_off = run_left c (fresh_of c s n) image region value buffer s n starts reads.fits long lends
 
 -- R7.2: a start that refuses, by 1, 2 or 3, runs nothing. The one-call form gives the same answer and changes nothing either.
-pub start_refuses : (c : Call) (image buffer : List ℕ) (s n : ℕ) (w : Refusal) → length image ≡ n * s → start_of c s n ≡ Start.Refused w
+pub start_refuses : (c : Call) (image buffer : List ℕ) (s n : ℕ) (w : Refusal) → length image ≡ n * s → start_of c s n ≡ Err w
     → (answer_of c image s n ≡ Refused w) × (image_after c image s n ≡ image) × (buffer_of c image s n buffer ≡ buffer) × (services c image s n ≡ [])
 start_refuses c image buffer s n w size h =
     let e = refused_so image s n size w c buffer h in

@@ -1,17 +1,18 @@
 -- What may happen to a chip: calls in one go, and operations taken one service at a time, to their end, broken off before it, or ended by a service
 -- that fails and is not done.
-use Rattle.std.specs.Prelude.{ℕ, ◌≤◌, ◌≡◌, List, [], ◌∷◌, ◌++◌, length, take, drop}
+use Rattle.std.specs.Prelude.{ℕ, ◌≤◌, ◌≡◌, List, [], ◌∷◌, ◌++◌, length, take, drop, Result, Ok, Err}
 use Rattle.plans.specs.declared.Answer.TheVariants.{Complete}
 use Rattle.store.specs.Read.{get_of}
 use Rattle.store.specs.Call.{Call, get, append, remove, collect, initialise, value_of, image_after}
 use Rattle.pinned.specs.Left.{erase_all}
 use Rattle.bindings.specs.WellFormed.{WellFormed, Bound}
 use Rattle.bindings.specs.Calls.{Typed, Spares}
-use Rattle.running.specs.declared.Start.{Start}
 use Rattle.running.specs.declared.Request.{Request}
 use Rattle.stepwise.specs.Begins.{start_of, fresh_of}
 use Rattle.runs.specs.Host.{Host, Beat, begun, failed, drive, readies}
 use Rattle.runs.specs.Services.{services, erases_of}
+use Rattle.refusals.specs.declared.Refusal.{Refusal}
+use Rattle.running.specs.declared.Op.{Op}
 
 -- R11.8, R11.9: a call; an operation, with a region buffer that may hold anything, and so many beats of its host: with fewer services than it needs it
 -- is broken off; or one whose host then says "failed", where a read that failed has brought these bytes.
@@ -29,9 +30,9 @@ buffer_in collect = []
 buffer_in (initialise key) = []
 
 -- R8.2, R11.9: the image where an operation stands, if its start hands one out: a start that refuses runs nothing.
-abbrev pub left_by : ℕ → Call → List ℕ → List Beat → (Host → Host) → List ℕ → Start → List ℕ
-left_by s c region beats last image (Start.Runs op) = (last (drive s beats (begun op image region (value_of c) (buffer_in c))).host).image
-left_by s c region beats last image (Start.Refused w) = image
+abbrev pub left_by : ℕ → Call → List ℕ → List Beat → (Host → Host) → List ℕ → Result Op Refusal → List ℕ
+left_by s c region beats last image (Ok op) = (last (drive s beats (begun op image region (value_of c) (buffer_in c))).host).image
+left_by s c region beats last image (Err w) = image
 
 -- R11.8, R11.9: the image after an event.
 abbrev pub image_after_event : ℕ → ℕ → Event → List ℕ → List ℕ
@@ -79,7 +80,7 @@ pub record Found (s n : ℕ) (image : List ℕ) (key : ℕ) (value buffer region
   pub well_formed : WellFormed s n image
   pub bound : Bound s n image key value
   pub in_one_go : get_of image s n key buffer ≡ record { answer = Complete (length value); buffer = value ++ drop (length value) buffer }
-  pub starts : start_of (get key buffer) s n ≡ Start.Runs (fresh_of (get key buffer) s n)
+  pub starts : start_of (get key buffer) s n ≡ Ok (fresh_of (get key buffer) s n)
   pub few : length (services (get key buffer) image s n) ≤ n
   pub answers : (beats : List Beat) → n ≤ readies beats
       → (drive s beats (begun (fresh_of (get key buffer) s n) image region lent buffer)).host.request ≡ Request.Answers (Complete (length value))

@@ -1,6 +1,6 @@
 -- The services of every call on an image, in this order and no others, over the definitions of the one-call form. A refusal ends the list where it is
 -- known.
-use Rattle.std.specs.Prelude.{ℕ, ◌*◌, ◌≡◌, cond, length}
+use Rattle.std.specs.Prelude.{ℕ, ◌*◌, ◌≡◌, cond, length, Result, Ok, Err}
 use mathlib.Core.List.{List, [], ◌∷◌, ◌++◌, map, Memᴰ}
 use Rattle.chip.specs.Chip.{erased}
 use Rattle.chip.specs.Geometry.{geometry, region_of, erase_region, numbers}
@@ -10,7 +10,6 @@ use Rattle.format.specs.declared.Fault.{Fault}
 use Rattle.format.specs.declared.Removal.{Removal}
 use Rattle.format.specs.Layout.{record_bytes, kill_bytes}
 use Rattle.region.specs.declared.Event.{Event}
-use Rattle.refusals.specs.declared.Check.{Check}
 use Rattle.refusals.specs.Refusals.{first_refusal}
 use Rattle.lookup.specs.declared.Hit.{Hit}
 use Rattle.lookup.specs.Turns.{lookup_in, regions_read, hit_of}
@@ -29,11 +28,12 @@ use Rattle.pinned.specs.Left.{Dead, erased_by}
 use Rattle.running.specs.declared.Request.{Request}
 use Rattle.running.specs.Waits.{request_edit}
 use Rattle.runs.specs.Host.{Run, service_done, buffer_of}
+use Rattle.refusals.specs.declared.Refusal.{Refusal}
 
 -- R7.2: refusals 1, 2 and 3 are known before any byte is read: then no service comes.
-abbrev pub unless_refused : Check → List Request → List Request
-unless_refused (Check.Refused w) asked = []
-unless_refused Check.Fine asked = asked
+abbrev pub unless_refused : Result (Unit {0}) Refusal → List Request → List Request
+unless_refused (Err w) asked = []
+unless_refused (Ok u) asked = asked
 
 -- R9.1: get's reads: of the regions in probe order, up to the one that decides. Of an aim's lookup, where a value of so many bytes is lent.
 abbrev pub reads : Aim → ℕ → ℕ → List ℕ → ℕ → ℕ → List Request
@@ -74,9 +74,9 @@ services (initialise key) image s n =
 -- What the services make of the image.
 
 -- R3.7: the bytes of a removal's one write, known from the record that the lookup found.
-abbrev pub hit_bytes : Removal → Hit → List ℕ
-hit_bytes how (Hit.Live r x) = kill_bytes how x
-hit_bytes how (Hit.Refused w) = []
+abbrev pub hit_bytes : Removal → Result Hit Refusal → List ℕ
+hit_bytes how (Ok h) = kill_bytes how h.rec
+hit_bytes how (Err w) = []
 
 -- R9.2, R9.3, R9.5: the bytes of the one write that a call may ask for: append's new record, what makes a removal's dead, or the main key's record.
 abbrev pub bytes_written : Call → List ℕ → ℕ → ℕ → List ℕ

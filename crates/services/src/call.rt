@@ -1,6 +1,7 @@
 // The store's calls, as a start of the stepped form and as one call.
 use plans::Answer;
-use running::Start;
+use refusals::Refusal;
+use running::Op;
 
 // A call with its key.
 #[derive(Clone, Copy)]
@@ -14,7 +15,7 @@ pub enum Call {
 }
 
 // With the length of append's value and of get's buffer.
-pub fn start(call: Call, len: usize, capacity: usize) -> Start {
+pub fn start(call: Call, len: usize, capacity: usize) -> Result<Op, Refusal> {
     match call {
         Call::Get(key) => running::start_get(64, 4, key, capacity),
         Call::Append(key) => running::start_append(64, 4, key, len),

@@ -3,7 +3,7 @@ use crate::call;
 use crate::call::Call;
 use host::{Host, Numbers};
 use plans::Answer;
-use running::{Op, Request, Start};
+use running::{Op, Request};
 
 // A get, and what lies in its buffer then. In one call it has the buffer's twin.
 pub fn get(
@@ -62,8 +62,8 @@ fn both(
 fn run(call: Call, image: &mut [u8; 256], value: &[u8], buffer: &mut [u8], host: Host) -> Request {
     let start = call::start(call, value.len(), buffer.len());
     match start {
-        Start::Runs(op) => go(op, image, value, buffer, host),
-        Start::Refused(refusal) => Request::Answers(Answer::Refused(refusal)),
+        Ok(op) => go(op, image, value, buffer, host),
+        Err(refusal) => Request::Answers(Answer::Refused(refusal)),
     }
 }
 

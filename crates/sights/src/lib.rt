@@ -94,7 +94,7 @@ pub fn shown_numbers(s: usize, region: usize, shown: Shown) -> CEntry
     match entry {
         Entry::Stands { rec, sound } => record_numbers(region * s, rec, sound, next),
         Entry::Ends => empty_numbers(2, 0, next),
-        Entry::Bad(fault) => empty_numbers(3, Refusal::of(fault).number(), next),
+        Entry::Bad(fault) => empty_numbers(3, Refusal::from(fault).number(), next),
         Entry::Over => empty_numbers(4, 0, next),
         Entry::Refused(refusal) => empty_numbers(0, refusal.number(), next),
     }

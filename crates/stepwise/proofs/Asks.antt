@@ -8,6 +8,7 @@ use mathlib.Core.Bool.{Bool, true, false, cond}
 use mathlib.Core.List.{List, [], ◌∷◌}
 use lib.Dec.{ltb}
 use lib.ListN.{take, drop, get_or}
+use Rattle.std.specs.Prelude.{Ok}
 use Rattle.probe.specs.Probe.{probes}
 use Rattle.format.specs.declared.Record.{Record}
 use Rattle.format.specs.declared.Removal.{Removal}
@@ -36,7 +37,6 @@ use Rattle.sweeping.specs.Sweeps.{verdict, swept_to, sweep_plan}
 use Rattle.values.specs.Values.{read_answer}
 use Rattle.store.specs.Call.{Call, get, append, remove, collect, initialise}
 use Rattle.running.specs.declared.Op.{Op}
-use Rattle.running.specs.declared.Start.{Start}
 use Rattle.running.specs.declared.Reply.{Reply}
 use Rattle.running.specs.declared.Wait.{Wait}
 use Rattle.running.specs.declared.Request.{Request}
@@ -190,7 +190,7 @@ record Of (c : Call) (s : ℕ) (op : Op) : Type 0 where
   same_lent : op.lent ≡ lent_of c
   plan_is : PlanOf c op.plan
 
-start_of_lem : (c : Call) (s n : ℕ) (op : Op) → start_of c s n ≡ Start.Runs op → Of c s op
+start_of_lem : (c : Call) (s n : ℕ) (op : Op) → start_of c s n ≡ Ok op → Of c s op
 start_of_lem c s n op h =
     subst (Of c s) (sym (start_runs c s n op h).is) (record { same_s = refl; same_key = refl; same_lent = refl; plan_is = follows_of (begins_of c) })
 
@@ -214,7 +214,7 @@ unfolding after
 after_of op [] o = o
 after_of op (g ∷ gs) o = after_of (next op g) gs (step_of op g o)
 
-run_of : (c : Call) (s n : ℕ) (op : Op) → start_of c s n ≡ Start.Runs op → (gs : List Given) → Of c s (after op gs)
+run_of : (c : Call) (s n : ℕ) (op : Op) → start_of c s n ≡ Ok op → (gs : List Given) → Of c s (after op gs)
 run_of c s n op h gs = after_of op gs (start_of_lem c s n op h)
 
 -- What it asks for.
@@ -260,7 +260,7 @@ append_leaves {value = value} {op = op} {y = y} o ready (lays w l) =
 
 -- So it is after any replies and any lent bytes.
 
-pub call_asks : (c : Call) (s n : ℕ) (op : Op) → start_of c s n ≡ Start.Runs op → (gs : List Given) (y : Reply) (region value buffer : List ℕ)
+pub call_asks : (c : Call) (s n : ℕ) (op : Op) → start_of c s n ≡ Ok op → (gs : List Given) (y : Reply) (region value buffer : List ℕ)
     → MayAsk s c (stepped (after op gs) y region value buffer).request
 unfolding stepped
 call_asks c s n op h gs y region value buffer = go (fits_here (after op gs) y region value buffer)
@@ -272,7 +272,7 @@ call_asks c s n op h gs y region value buffer = go (fits_here (after op gs) y re
     go true = of_asks (next_is_of y region (run_of c s n op h gs))
     go false = any_answers
 
-pub append_lays_lent : (key : ℕ) (named : List ℕ) (s n : ℕ) (op : Op) → start_of (append key named) s n ≡ Start.Runs op → (gs : List Given)
+pub append_lays_lent : (key : ℕ) (named : List ℕ) (s n : ℕ) (op : Op) → start_of (append key named) s n ≡ Ok op → (gs : List Given)
     → (y : Reply) → (y ≡ Reply.NotReady → ⊥) → (region value buffer : List ℕ) {a e p : ℕ} → (stepped (after op gs) y region value buffer).request ≡ Request.Write a e p
     → take (e - a) (drop a (region_after (after op gs) y region value buffer)) ≡ record_bytes key value
 append_lays_lent key named s n op h gs y ready region value buffer asked =

@@ -10,6 +10,7 @@ use mathlib.Core.List.{List, [], ◌∷◌}
 use mathlib.Core.Logic.{◌↔◌}
 use lib.Dec.{ltb}
 use lib.ListN.{length, get_or, length-map}
+use Rattle.std.specs.Prelude.{Result, Ok, Err}
 use Rattle.chip.specs.Every.{Every}
 use Rattle.chip.specs.Geometry.{numbers}
 use Rattle.probe.specs.Probe.{probes}
@@ -41,7 +42,6 @@ use Rattle.sweeping.specs.Sweeps.{verdict, swept_to, sweep_plan}
 use Rattle.values.specs.Values.{read_answer}
 use Rattle.store.specs.Call.{Call, get, append, remove, collect, initialise}
 use Rattle.running.specs.declared.Op.{Op}
-use Rattle.running.specs.declared.Start.{Start}
 use Rattle.running.specs.declared.Reply.{Reply}
 use Rattle.running.specs.declared.Wait.{Wait}
 use Rattle.running.specs.declared.Request.{Request}
@@ -78,22 +78,22 @@ numbers-length r (suc k) = ap suc (numbers-length (r + 1) k)
 anew_ahead : (n : ℕ) → ahead_plan n (anew n) ≡ n + (n + 1)
 anew_ahead n = omega (arith, length-map (numbers 0 (n - 0)) Edit.Erase, numbers-length 0 (n - 0), sub-zero n)
 
-get_ahead : (n : ℕ) (hit : Hit) → ahead_plan n (get_plan hit) ≤ 0
-get_ahead n (Hit.Live r x) = omega arith
-get_ahead n (Hit.Refused w) = omega arith
+get_ahead : (n : ℕ) (hit : Result Hit Refusal) → ahead_plan n (get_plan hit) ≤ 0
+get_ahead n (Ok h) = omega arith
+get_ahead n (Err w) = omega arith
 
 append_ahead : (n : ℕ) (looked : Looked) → ahead_plan n (append_plan looked) ≤ 1
 append_ahead n (Looked.Live r x) = omega arith
 append_ahead n (Looked.Bad f p) = omega arith
 append_ahead n (Looked.Through seen) = by_place (λ (p : Plan). ahead_plan n p ≤ 1) (place_ahead n) seen
 
-remove_ahead : (n : ℕ) (how : Removal) (hit : Hit) → ahead_plan n (remove_plan how hit) ≤ 1
-remove_ahead n how (Hit.Live r x) = omega arith
-remove_ahead n how (Hit.Refused w) = omega arith
+remove_ahead : (n : ℕ) (how : Removal) (hit : Result Hit Refusal) → ahead_plan n (remove_plan how hit) ≤ 1
+remove_ahead n how (Ok h) = omega arith
+remove_ahead n how (Err w) = omega arith
 
-initialise_ahead : (n : ℕ) (hit : Hit) → ahead_plan n (initialise_plan n hit) ≤ n + (n + 1)
-initialise_ahead n (Hit.Live r x) = omega arith
-initialise_ahead n (Hit.Refused w) = omega (arith, anew_ahead n)
+initialise_ahead : (n : ℕ) (hit : Result Hit Refusal) → ahead_plan n (initialise_plan n hit) ≤ n + (n + 1)
+initialise_ahead n (Ok h) = omega arith
+initialise_ahead n (Err w) = omega (arith, anew_ahead n)
 
 plan_ahead : (aim : Aim) (n : ℕ) (looked : Looked) → ahead_plan n (plan aim n looked) ≤ behind aim n
 plan_ahead Aim.Get n looked = get_ahead n (hit_by looked)
@@ -266,7 +266,7 @@ fresh_ahead (remove how key) s n = omega arith
 fresh_ahead collect s n = omega arith
 fresh_ahead (initialise key) s n = omega arith
 
-pub at_start : (c : Call) (s n : ℕ) (op : Op) → start_of c s n ≡ Start.Runs op → (ahead op ≡ most c n) × (ahead op ≤ 3 * n + 1)
+pub at_start : (c : Call) (s n : ℕ) (op : Op) → start_of c s n ≡ Ok op → (ahead op ≡ most c n) × (ahead op ≤ 3 * n + 1)
 at_start c s n op h =
     let e : ahead op ≡ most c n = ap ahead (start_runs c s n op h).is ∙ fresh_ahead c s n in
     (e, omega (arith, e, most_any c n))
@@ -324,7 +324,7 @@ taken_most op (g ∷ gs) = go g.reply refl (fits_here op g.reply g.region g.valu
     go Reply.NotReady e t f l = omega (arith, l, rises_never op g)
     go Reply.Failed e t f l = omega (arith, l, rises_never op g)
 
-pub taken_at_most : (c : Call) (s n : ℕ) (op : Op) → start_of c s n ≡ Start.Runs op → (gs : List Given) → taken op gs + ahead (after op gs) ≤ most c n
+pub taken_at_most : (c : Call) (s n : ℕ) (op : Op) → start_of c s n ≡ Ok op → (gs : List Given) → taken op gs + ahead (after op gs) ≤ most c n
 taken_at_most c s n op h gs = omega (arith, taken_most op gs, (at_start c s n op h).0)
 
 -- A step that fits says what the operation then waits for.
@@ -361,7 +361,7 @@ ends_after o op (g ∷ gs) s l (Every.also f fs) k b a m =
         let said = says op g.reply g.region g.value g.buffer fit ∙ e in
         now said (λ z. true≢false (sym fit ∙ is_bad_call op g.reply g.region g.value g.buffer (step_refuses op g.reply g.region g.value g.buffer) (ap request_refusal said ∙ z)))
 
-pub ends_always : (c : Call) (s n : ℕ) (op : Op) → start_of c s n ≡ Start.Runs op
+pub ends_always : (c : Call) (s n : ℕ) (op : Op) → start_of c s n ≡ Ok op
     → (region value buffer : List ℕ) → length region ≡ s → LentRight op.lent value buffer
     → (gs : List Given) → Every (Fair op) gs → most c n ≤ dones gs → Answers (stepped op Reply.Begin region value buffer).op gs
 ends_always c s n op h region value buffer long lent gs fair enough = go (makes op Reply.Begin region value buffer)

@@ -10,6 +10,7 @@ use mathlib.Core.List.{List}
 use mathlib.Core.Logic.{◌⊎◌, inl, inr}
 use lib.Dec.{ltb}
 use lib.ListN.{length, take, drop, get_or}
+use Rattle.std.specs.Prelude.{Result, Err, Ok}
 use Rattle.chip.proofs.Lists.{sets-before, sets-after}
 use Rattle.probe.specs.Probe.{probes}
 use Rattle.format.specs.declared.Record.{Record}
@@ -236,22 +237,22 @@ module _ (op : Op) (region buffer : List ℕ) where
   nothing_fills (Lent.Value len) h r x = refl
   nothing_fills (Lent.Buffer len) h r x = absurd (true≢false (sym h))
 
-  get_fills : (hit : Hit) (i : ℕ) (seen : Seen) → op.plan.next ≡ Then.Seek Aim.Get i seen → Fills op region buffer (get_plan hit)
-  get_fills (Hit.Live r x) i seen e = inr ((i, seen, e), (read_answer region x (buffer_lent op.lent), answer_reads region x (buffer_lent op.lent), refl))
-  get_fills (Hit.Refused w) i seen e = inl refl
+  get_fills : (hit : Result Hit Refusal) (i : ℕ) (seen : Seen) → op.plan.next ≡ Then.Seek Aim.Get i seen → Fills op region buffer (get_plan hit)
+  get_fills (Ok h) i seen e = inr ((i, seen, e), (read_answer region h.rec (buffer_lent op.lent), answer_reads region h.rec (buffer_lent op.lent), refl))
+  get_fills (Err w) i seen e = inl refl
 
   append_fills : (looked : Looked) → Fills op region buffer (append_plan looked)
   append_fills (Looked.Live r x) = inl refl
   append_fills (Looked.Bad f p) = inl refl
   append_fills (Looked.Through seen) = by_place (Fills op region buffer) place_fills seen
 
-  remove_fills : (how : Removal) (hit : Hit) → Fills op region buffer (remove_plan how hit)
-  remove_fills how (Hit.Live r x) = inl refl
-  remove_fills how (Hit.Refused w) = inl refl
+  remove_fills : (how : Removal) (hit : Result Hit Refusal) → Fills op region buffer (remove_plan how hit)
+  remove_fills how (Ok h) = inl refl
+  remove_fills how (Err w) = inl refl
 
-  initialise_fills : (hit : Hit) → lent_nothing op.lent ≡ true → Fills op region buffer (initialise_plan op.n hit)
-  initialise_fills (Hit.Live r x) h = inl (nothing_fills op.lent h r x)
-  initialise_fills (Hit.Refused w) h = inl refl
+  initialise_fills : (hit : Result Hit Refusal) → lent_nothing op.lent ≡ true → Fills op region buffer (initialise_plan op.n hit)
+  initialise_fills (Ok t) h = inl (nothing_fills op.lent h t.region t.rec)
+  initialise_fills (Err w) h = inl refl
 
   plan_fills : (aim : Aim) (i : ℕ) (seen : Seen) → op.plan.next ≡ Then.Seek aim i seen → lent_for aim op.lent ≡ true → (looked : Looked)
       → Fills op region buffer (plan aim op.n looked)

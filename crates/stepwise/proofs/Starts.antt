@@ -7,8 +7,8 @@ use native.Mathlib.Omega.{arith}
 use mathlib.Core.Path.{◌≡◌, refl, sym, ◌∙◌}
 use mathlib.Core.Bool.{Bool, true, false, cond}
 use lib.ListN.{length}
+use Rattle.std.specs.Prelude.{Result, Ok, Err}
 use Rattle.probe.proofs.Theorems.{in_range}
-use Rattle.refusals.specs.declared.Check.{Check}
 use Rattle.plans.specs.declared.Lent.{Lent}
 use Rattle.plans.specs.declared.Edit.{Edit}
 use Rattle.plans.specs.declared.First.{First}
@@ -18,7 +18,6 @@ use Rattle.plans.specs.Fits.{then_fits}
 use Rattle.plans.proofs.Facts.{edit_facts, edits_facts, seek_facts, sweep_facts}
 use Rattle.store.specs.Call.{Call, get, append, remove, collect, initialise}
 use Rattle.running.specs.declared.Op.{Op}
-use Rattle.running.specs.declared.Start.{Start}
 use Rattle.running.specs.declared.Wait.{Wait}
 use Rattle.running.specs.Starts.{start_refusal, started_or}
 use Rattle.running.specs.Waits.{wait_next, wait_first, request_edit, request_for, request_of}
@@ -26,6 +25,7 @@ use Rattle.running.specs.Ruled.{Ruled}
 use Rattle.running.proofs.Rules.{plan_of, look_ruled, collect_ruled}
 use Rattle.stepwise.specs.Asked.{Inside, reads, writes, erases, answers}
 use Rattle.stepwise.specs.Begins.{start_of, key_carried, lent_of, fresh_of}
+use Rattle.refusals.specs.declared.Refusal.{Refusal}
 
 -- Every start is of one form, and hands out what keeps the rule.
 pub starts_so : (c : Call) (s n : ℕ) → start_of c s n ≡ started_or (fresh_of c s n) (start_refusal s n (key_carried c) (value_lent (lent_of c)))
@@ -35,7 +35,7 @@ starts_so (remove how key) s n = refl
 starts_so collect s n = refl
 starts_so (initialise key) s n = refl
 
-pub start_ruled : (c : Call) (s n : ℕ) {op : Op} → start_of c s n ≡ Start.Runs op → Ruled op
+pub start_ruled : (c : Call) (s n : ℕ) {op : Op} → start_of c s n ≡ Ok op → Ruled op
 start_ruled (get key buffer) s n h = look_ruled _ s n key (Lent.Buffer (length buffer)) refl h
 start_ruled (append key value) s n h = look_ruled _ s n key (Lent.Value (length value)) refl h
 start_ruled (remove how key) s n h = look_ruled _ s n key Lent.Nothing refl h
@@ -44,14 +44,14 @@ start_ruled (initialise key) s n h = look_ruled _ s n key Lent.Nothing refl h
 
 pub record Runs (c : Call) (s n : ℕ) (op : Op) : Type 0 where
   pub is : op ≡ fresh_of c s n
-  pub fine : start_refusal s n (key_carried c) (value_lent (lent_of c)) ≡ Check.Fine
+  pub fine : start_refusal s n (key_carried c) (value_lent (lent_of c)) ≡ Ok tt
 
-pub start_runs : (c : Call) (s n : ℕ) (op : Op) → start_of c s n ≡ Start.Runs op → Runs c s n op
+pub start_runs : (c : Call) (s n : ℕ) (op : Op) → start_of c s n ≡ Ok op → Runs c s n op
 start_runs c s n op h = go (start_refusal s n (key_carried c) (value_lent (lent_of c))) refl (sym (starts_so c s n) ∙ h)
   where
-    go : (check : Check) → start_refusal s n (key_carried c) (value_lent (lent_of c)) ≡ check → started_or (fresh_of c s n) check ≡ Start.Runs op → Runs c s n op
-    go Check.Fine e h = record { is = let same : op ≡ fresh_of c s n = cc in same; fine = e }
-    go (Check.Refused w) e h = absurd (let z : ◌≡◌ {A = ℕ} 0 1 = cc in omega arith)
+    go : (check : Result (Unit {0}) Refusal) → start_refusal s n (key_carried c) (value_lent (lent_of c)) ≡ check → started_or (fresh_of c s n) check ≡ Ok op → Runs c s n op
+    go (Ok u) e h = record { is = let same : op ≡ fresh_of c s n = cc in same; fine = e }
+    go (Err w) e h = absurd (let z : ◌≡◌ {A = ℕ} 0 1 = cc in omega arith)
 
 -- What is asked for lies in the chip.
 

@@ -9,6 +9,7 @@ use mathlib.Core.Bool.{Bool, true, false, cond}
 use mathlib.Core.List.{List}
 use mathlib.Core.Logic.{◌⊎◌, ◌↔◌}
 use lib.ListN.{length, take, drop}
+use Rattle.std.specs.Prelude.{Result, Ok, Err}
 use Rattle.chip.specs.Every.{Every}
 use Rattle.format.specs.declared.Removal.{Removal}
 use Rattle.format.specs.Layout.{record_bytes}
@@ -18,7 +19,6 @@ use Rattle.plans.specs.declared.Answer.TheVariants.{Refused}
 use Rattle.plans.specs.Writes.{refuses}
 use Rattle.store.specs.Call.{Call, append}
 use Rattle.running.specs.declared.Op.{Op}
-use Rattle.running.specs.declared.Start.{Start}
 use Rattle.running.specs.declared.Reply.{Reply}
 use Rattle.running.specs.declared.Request.{Request}
 use Rattle.running.specs.Starts.{get_started, append_started, remove_started, collect_started, initialise_started}
@@ -43,17 +43,17 @@ use Rattle.stepwise.proofs.Falls.{at_start, falls, rises_never, none_left, taken
 -- Starts.
 
 -- R7.2: a start refuses exactly where R6.1, R6.2 or R6.3 says so, in this order: of S, N, the key and the length of the value alone.
-pub start_refuses_exactly_when : (c : Call) (s n : ℕ) (w : Refusal) → (start_of c s n ≡ Start.Refused w) ↔ StartWhen s n c w
+pub start_refuses_exactly_when : (c : Call) (s n : ℕ) (w : Refusal) → (start_of c s n ≡ Err w) ↔ StartWhen s n c w
 start_refuses_exactly_when c s n w = refuses_when c s n w
 
 -- R8.2: where none does, it hands out the fresh operation of the call, and only there.
-pub start_runs_exactly_when : (c : Call) (s n : ℕ) (op : Op) → (start_of c s n ≡ Start.Runs op) ↔ (Allowed s n c × (op ≡ fresh_of c s n))
+pub start_runs_exactly_when : (c : Call) (s n : ℕ) (op : Op) → (start_of c s n ≡ Ok op) ↔ (Allowed s n c × (op ≡ fresh_of c s n))
 start_runs_exactly_when c s n op = runs_when c s n op
 
 -- The written rule.
 
 -- R8.10: every operation that a start hands out keeps the written rule,
-pub start_keeps : (c : Call) (s n : ℕ) (op : Op) → start_of c s n ≡ Start.Runs op → rule op ≡ true
+pub start_keeps : (c : Call) (s n : ℕ) (op : Op) → start_of c s n ≡ Ok op → rule op ≡ true
 start_keeps c s n op h = is_ruled op (start_ruled c s n h)
 
 -- R8.10: and so does what a step makes of one where the call fits,
@@ -89,7 +89,7 @@ says_what_it_waits_for op y region value buffer h = says op y region value buffe
 
 -- R9.1, R9.2, R9.3, R9.4, R9.5: which operations ask for a write, and which for an erase: what any step of a call's operation says, after any replies
 -- and any lent bytes. Get, append and the removals never ask for an erase.
-pub asks_only : (c : Call) (s n : ℕ) (op : Op) → start_of c s n ≡ Start.Runs op → (gs : List Given) (y : Reply) (region value buffer : List ℕ)
+pub asks_only : (c : Call) (s n : ℕ) (op : Op) → start_of c s n ≡ Ok op → (gs : List Given) (y : Reply) (region value buffer : List ℕ)
     → MayAsk s c (stepped (after op gs) y region value buffer).request
 asks_only c s n op h gs y region value buffer = call_asks c s n op h gs y region value buffer
 
@@ -109,7 +109,7 @@ rest_stays op y region value buffer h = leaves_rest (steps_leave (steps op y reg
 
 -- R8.6: the value lent at the step that asks for the write is the one written: of an append, whatever value any earlier step was lent. A step with
 -- "not ready" repeats the request, and lays nothing.
-pub lent_is_written : (key : ℕ) (named : List ℕ) (s n : ℕ) (op : Op) → start_of (append key named) s n ≡ Start.Runs op → (gs : List Given)
+pub lent_is_written : (key : ℕ) (named : List ℕ) (s n : ℕ) (op : Op) → start_of (append key named) s n ≡ Ok op → (gs : List Given)
     → (y : Reply) → (y ≡ Reply.NotReady → ⊥) → (region value buffer : List ℕ) {a e p : ℕ} → (stepped (after op gs) y region value buffer).request ≡ Request.Write a e p
     → take (e - a) (drop a (region_after (after op gs) y region value buffer)) ≡ record_bytes key value
 lent_is_written key named s n op h gs y w region value buffer asked = append_lays_lent key named s n op h gs y w region value buffer asked
@@ -173,7 +173,7 @@ flash_failed_exactly_when op y region value buffer = twelve_when op y region val
 -- Nothing runs on, whatever the host: any bytes in the buffers at each step, and any replies.
 
 -- R9.6: a number of services still to come. At the start it is get's n, append's and the removals' n + 1, collect's 2 n, initialise's 3 n + 1,
-pub ahead_at_start : (c : Call) (s n : ℕ) (op : Op) → start_of c s n ≡ Start.Runs op → (ahead op ≡ most c n) × (ahead op ≤ 3 * n + 1)
+pub ahead_at_start : (c : Call) (s n : ℕ) (op : Op) → start_of c s n ≡ Ok op → (ahead op ≡ most c n) × (ahead op ≤ 3 * n + 1)
 ahead_at_start c s n op h = at_start c s n op h
 
 -- R9.6: it falls with every "done" that is not BadCall,
@@ -191,13 +191,13 @@ none_ahead op k = none_left op k
 
 -- R9.6: so after any replies and any lent bytes at all, with mistakes among them, the services that were done and those still to come are no more than
 -- at the start.
-pub nothing_runs_on : (c : Call) (s n : ℕ) (op : Op) → start_of c s n ≡ Start.Runs op → (gs : List Given) → taken op gs + ahead (after op gs) ≤ most c n
+pub nothing_runs_on : (c : Call) (s n : ℕ) (op : Op) → start_of c s n ≡ Ok op → (gs : List Given) → taken op gs + ahead (after op gs) ≤ most c n
 nothing_runs_on c s n op h gs = taken_at_most c s n op h gs
 
 -- R13.3: and an operation ends, in the hands of a chip that lies about its reads, writes and erases too: begun, never told "begin" again, and lent
 -- buffers of the right lengths with any bytes in them, it answers by the time that as many "done" were said as the number is at the start. (A host that
 -- is never ready is asked for ever: that is the host's.)
-pub ends_whatever_the_host : (c : Call) (s n : ℕ) (op : Op) → start_of c s n ≡ Start.Runs op
+pub ends_whatever_the_host : (c : Call) (s n : ℕ) (op : Op) → start_of c s n ≡ Ok op
     → (region value buffer : List ℕ) → length region ≡ s → LentRight op.lent value buffer
     → (gs : List Given) → Every (Fair op) gs → most c n ≤ dones gs → Answers (stepped op Reply.Begin region value buffer).op gs
 ends_whatever_the_host c s n op h region value buffer long lent gs fair enough = ends_always c s n op h region value buffer long lent gs fair enough
@@ -217,10 +217,10 @@ pub step_only_one : (op : Op) (y : Reply) (region value buffer : List ℕ) {t t'
 step_only_one op y region value buffer (p, q, u) (p', q', u') = (p ∙ sym p', q ∙ sym q', u ∙ sym u')
 
 -- R7.5: one result of each start.
-only_one : {start a a' : Start} → a ≡ start → a' ≡ start → a ≡ a'
+only_one : {start a a' : Result Op Refusal} → a ≡ start → a' ≡ start → a ≡ a'
 only_one p p' = p ∙ sym p'
 
-module _ (s n : ℕ) {a a' : Start} where
+module _ (s n : ℕ) {a a' : Result Op Refusal} where
   pub start_get_only_one : (key capacity : ℕ) → a ≡ get_started s n key capacity → a' ≡ get_started s n key capacity → a ≡ a'
   start_get_only_one key capacity = only_one
 

@@ -1,5 +1,5 @@
 -- How a call is started in the stepped form: with the numbers that the host names, and with no image at hand.
-use Rattle.std.specs.Prelude.{ℕ, ◌≤◌, ◌<◌, length}
+use Rattle.std.specs.Prelude.{ℕ, ◌≤◌, ◌<◌, length, Result}
 use Rattle.std.proofs.Math.Option.{Option, none, some}
 use Rattle.chip.specs.Geometry.{Shape}
 use Rattle.format.specs.Layout.{edition, largest_value}
@@ -11,11 +11,10 @@ use Rattle.plans.specs.Writes.{follows, look}
 use Rattle.store.specs.Call.{Call, get, append, remove, collect, initialise, value_of, aim_of}
 use Rattle.pinned.specs.When.{BadKey}
 use Rattle.running.specs.declared.Op.{Op}
-use Rattle.running.specs.declared.Start.{Start}
 use Rattle.running.specs.Starts.{started, get_started, append_started, remove_started, collect_started, initialise_started}
 
 -- R8.2: any call's start: with the length of get's buffer, or of append's value.
-abbrev pub start_of : Call → ℕ → ℕ → Start
+abbrev pub start_of : Call → ℕ → ℕ → Result Op Refusal
 start_of (get key buffer) s n = get_started s n key (length buffer)
 start_of (append key value) s n = append_started s n key (length value)
 start_of (remove how key) s n = remove_started how s n key

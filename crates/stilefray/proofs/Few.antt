@@ -6,6 +6,7 @@ use mathlib.Core.Bool.{Bool, true, false, cond, ◌&&◌, true≢false}
 use mathlib.Core.List.{List}
 use lib.Dec.{ltb}
 use lib.ListN.{get_or}
+use Rattle.std.specs.Prelude.{Result, Err, Ok}
 use Rattle.probe.specs.Probe.{probes}
 use Rattle.format.specs.declared.Removal.{Removal}
 use Rattle.lookup.specs.declared.Room.{Room}
@@ -31,6 +32,7 @@ use Rattle.running.specs.declared.Op.{Op}
 use Rattle.running.specs.declared.Reply.{Reply}
 use Rattle.advancing.specs.Advance.{closes, turned_to, advance_next, advance_first, advance, given_by, given, next_plan}
 use Rattle.numbers.specs.Packs.{few}
+use Rattle.refusals.specs.declared.Refusal.{Refusal}
 
 abbrev Few : Plan → Type 0
 Few p = few p.edits ≡ true
@@ -46,22 +48,22 @@ rest_few (Edits.Erases i m) h = go (ltb i m)
     go true = refl
     go false = refl
 
-get_few : (hit : Hit) → Few (get_plan hit)
-get_few (Hit.Live r x) = refl
-get_few (Hit.Refused w) = refl
+get_few : (hit : Result Hit Refusal) → Few (get_plan hit)
+get_few (Ok h) = refl
+get_few (Err w) = refl
 
 place_few : (room : Room) → Few (place_plan room)
 place_few Room.Nowhere = refl
 place_few (Room.At r o false) = refl
 place_few (Room.At r o true) = refl
 
-remove_few : (how : Removal) (hit : Hit) → Few (remove_plan how hit)
-remove_few how (Hit.Live r x) = refl
-remove_few how (Hit.Refused w) = refl
+remove_few : (how : Removal) (hit : Result Hit Refusal) → Few (remove_plan how hit)
+remove_few how (Ok h) = refl
+remove_few how (Err w) = refl
 
-initialise_few : (n : ℕ) (hit : Hit) → Few (initialise_plan n hit)
-initialise_few n (Hit.Live r x) = refl
-initialise_few n (Hit.Refused w) = refl
+initialise_few : (n : ℕ) (hit : Result Hit Refusal) → Few (initialise_plan n hit)
+initialise_few n (Ok h) = refl
+initialise_few n (Err w) = refl
 
 plan_few : (aim : Aim) (n : ℕ) (looked : Looked) → Few (plan aim n looked)
 plan_few Aim.Get n looked = get_few (hit_by looked)

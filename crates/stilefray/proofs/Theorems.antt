@@ -5,10 +5,10 @@ use mathlib.Core.Path.{◌≡◌, refl, sym, ◌∙◌, ap}
 use mathlib.Core.Bool.{Bool, true, false}
 use mathlib.Core.List.{List}
 use mathlib.Core.Logic.{◌⊎◌, ⊎_elim}
+use Rattle.std.specs.Prelude.{Result, Ok, Err, Some, None}
 use Rattle.plans.specs.declared.Aim.{Aim}
 use Rattle.plans.specs.declared.Lent.{Lent}
 use Rattle.plans.specs.Writes.{value_lent}
-use Rattle.refusals.specs.declared.Check.{Check}
 use Rattle.running.specs.declared.Op.{Op}
 use Rattle.running.specs.declared.Reply.{Reply}
 use Rattle.running.specs.Starts.{start_refusal, started_or, look_started, collect_started}
@@ -16,7 +16,6 @@ use Rattle.running.specs.Waits.{with_plan}
 use Rattle.steps.specs.Step.{fits_here, stepped, region_after, buffer_after}
 use Rattle.operations.specs.declared.COperation.{COperation}
 use Rattle.numbers.specs.declared.CStepped.{CStepped}
-use Rattle.operations.specs.declared.unpacks.KnownReply.{KnownReply}
 use Rattle.numbers.specs.Packs.{few, packed, start_few}
 use Rattle.operations.specs.Unpacks.{KnownOp, unpacked, reply_number, known_reply}
 use Rattle.numbers.proofs.Own.{own}
@@ -25,14 +24,15 @@ use Rattle.numbers.proofs.Theorems.{known_number}
 use Rattle.stilefray.specs.Stepped.{bad_call, packed_step, step_numbers, step_region, step_buffer}
 use Rattle.stilefray.proofs.Called.{Steps, no_op, no_reply, misfit, fit, misfits, waits}
 use Rattle.stilefray.proofs.Few.{next_few}
+use Rattle.refusals.specs.declared.Refusal.{Refusal}
 
 -- R12.6: every operation that a start hands out has numbers: no edit is left to do.
 pub start_few_lem : ((aim : Aim) (s n key : ℕ) (lent : Lent) → start_few (look_started aim s n key lent) ≡ true) × ((s n : ℕ) → start_few (collect_started s n) ≡ true)
 start_few_lem = ((λ aim s n key lent. go _ refl (start_refusal s n key (value_lent lent))), λ s n. go _ refl (start_refusal s n 1 0))
   where
-    go : (op : Op) → few op.plan.edits ≡ true → (check : Check) → start_few (started_or op check) ≡ true
-    go op e Check.Fine = e
-    go op e (Check.Refused w) = refl
+    go : (op : Op) → few op.plan.edits ≡ true → (check : Result (Unit {0}) Refusal) → start_few (started_or op check) ≡ true
+    go op e (Ok u) = e
+    go op e (Err w) = refl
 
 -- R12.7: and so has what a step makes of one.
 pub step_few : (op : Op) (y : Reply) (region value buffer : List ℕ) → few op.plan.edits ≡ true → few (stepped op y region value buffer).op.plan.edits ≡ true
@@ -62,13 +62,13 @@ step_carries op h y region value buffer = go (stood op h)
 
 -- R6.11: BadCall leaves the running operation as it was: numbers that stand for no running operation, or for no reply, come back as they were, and
 -- region and buffer too.
-pub bad_call_keeps : (o : COperation) (y : ℕ) (region value buffer : List ℕ) → (unpacked o ≡ KnownOp.Unknown) ⊎ (known_reply y ≡ KnownReply.Unknown)
+pub bad_call_keeps : (o : COperation) (y : ℕ) (region value buffer : List ℕ) → (unpacked o ≡ KnownOp.Unknown) ⊎ (known_reply y ≡ None)
     → (step_numbers o y region value buffer ≡ bad_call o) × (step_region o y region value buffer ≡ region) × (step_buffer o y region value buffer ≡ buffer)
 bad_call_keeps o y region value buffer = ⊎_elim (no_op o y region value buffer) (no_reply o y region value buffer)
 
 -- R6.11: a call that does not fit what its numbers stand for keeps all of them too.
 pub misfit_keeps : (o : COperation) (y : ℕ) (region value buffer : List ℕ) (op : Op) (said : Reply)
-    → unpacked o ≡ KnownOp.Known op → known_reply y ≡ KnownReply.Known said → fits_here op said region value buffer ≡ false
+    → unpacked o ≡ KnownOp.Known op → known_reply y ≡ Some said → fits_here op said region value buffer ≡ false
     → (step_numbers o y region value buffer ≡ bad_call o) × (step_region o y region value buffer ≡ region) × (step_buffer o y region value buffer ≡ buffer)
 misfit_keeps = misfit
 

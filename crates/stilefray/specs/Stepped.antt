@@ -1,5 +1,5 @@
 -- One step in numbers: steps' `stepped`, `region_after` and `buffer_after` on what the numbers stand for.
-use Rattle.std.specs.Prelude.{ℕ, List}
+use Rattle.std.specs.Prelude.{ℕ, List, Option, Some, None}
 use Rattle.refusals.specs.declared.Refusal.{Refusal}
 use Rattle.plans.specs.declared.Answer.TheVariants.{Refused}
 use Rattle.running.specs.declared.Op.{Op}
@@ -9,7 +9,6 @@ use Rattle.steps.specs.declared.Stepped.{Stepped}
 use Rattle.steps.specs.Step.{stepped, region_after, buffer_after}
 use Rattle.operations.specs.declared.COperation.{COperation}
 use Rattle.numbers.specs.declared.CStepped.{CStepped}
-use Rattle.operations.specs.declared.unpacks.KnownReply.{KnownReply}
 use Rattle.replies.specs.Answers.{request_numbers}
 use Rattle.numbers.specs.Packs.{packed}
 use Rattle.operations.specs.Unpacks.{KnownOp, unpacked, known_reply}
@@ -23,10 +22,10 @@ abbrev pub packed_step : Stepped → CStepped
 packed_step t = record { op = packed t.op; request = request_numbers t.request }
 
 -- R6.11: numbers that stand for no operation (R12.5) or no reply (R12.3) are BadCall, and alter nothing.
-abbrev pub on_known : {A : Type 0} → A → (Op → Reply → A) → KnownOp → KnownReply → A
+abbrev pub on_known : {A : Type 0} → A → (Op → Reply → A) → KnownOp → Option Reply → A
 on_known other runs KnownOp.Unknown y = other
-on_known other runs (KnownOp.Known op) KnownReply.Unknown = other
-on_known other runs (KnownOp.Known op) (KnownReply.Known y) = runs op y
+on_known other runs (KnownOp.Known op) None = other
+on_known other runs (KnownOp.Known op) (Some y) = runs op y
 
 -- R12.7: a step on numbers is the step on what they stand for.
 unfoldable pub step_numbers : COperation → ℕ → List ℕ → List ℕ → List ℕ → CStepped

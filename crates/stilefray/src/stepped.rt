@@ -4,7 +4,7 @@ ghost use Rattle.stilefray.specs.Stepped.{bad_call};
 ghost use Rattle.stilefray.specs.Allows.{StartGetAllows, StartAppendAllows, StartInvalidateAllows, StartZeroiseAllows, StartCollectAllows, StartInitialiseAllows, StepAllows};
 
 use numbers::{CStart, CStepped};
-use operations::{COperation, KnownReply};
+use operations::COperation;
 use plans::Answer;
 use refusals::Refusal;
 use running::Request;
@@ -75,7 +75,7 @@ pub fn stilefray_step(
         return bad_call(op);
     }
     let said = operations::known_reply(reply);
-    let KnownReply::Known(told) = said else {
+    let Some(told) = said else {
         return bad_call(op);
     };
     let stepped = steps::step(operations::read_as(op), told, region, value, buffer);

@@ -7,6 +7,7 @@ use mathlib.Core.Bool.{Bool, true, false}
 use mathlib.Core.List.{List, []}
 use lib.ListN.{length}
 use borrow.Author.Tests.{lt-ltb}
+use Rattle.std.specs.Prelude.{Result, Ok}
 use Rattle.chip.specs.Geometry.{Fits}
 use Rattle.probe.specs.Probe.{probes}
 use Rattle.format.specs.declared.Record.{Record}
@@ -14,38 +15,27 @@ use Rattle.format.specs.declared.Removal.{Removal}
 use Rattle.format.specs.Layout.{record_length, kill_place, kill_bytes}
 use Rattle.format.proofs.Killed.{kill_length_lem}
 use Rattle.refusals.specs.declared.Refusal.{Refusal}
-use Rattle.refusals.specs.declared.Check.{Check}
 use Rattle.lookup.specs.declared.Need.{Need}
 use Rattle.lookup.specs.declared.Room.{Room}
 use Rattle.lookup.specs.declared.Looked.{Looked}
 use Rattle.lookup.specs.declared.Hit.{Hit}
 use Rattle.refusals.specs.Refusals.{first_refusal}
-use Rattle.lookup.specs.Turns.{lookup_in, hit_of}
+use Rattle.lookup.specs.Turns.{lookup_in, hit_of, hits}
 use Rattle.lookup.proofs.Scan.{fine}
 use Rattle.lookup.proofs.Ends.{Placed, held, placed_at}
-use Rattle.plans.specs.declared.Answer.{Answer}
-use Rattle.plans.specs.declared.Answer.TheVariants.{Refused}
-use Rattle.plans.specs.declared.Then.{Then}
 use Rattle.plans.specs.declared.Plan.{Plan}
 use Rattle.plans.specs.Fits.{edits_fit}
 use Rattle.planning.specs.Planning.{place_plan, append_plan, remove_plan}
 use Rattle.plans.proofs.Facts.{join, place_fits_lem, record_fits_lem}
-use Rattle.store.specs.Write.{end_of, carried, append_of, remove_of}
+use Rattle.store.specs.Write.{carried, append_of, remove_of}
 
 -- A removal's bytes lie within the record.
 pub removal_fits : (how : Removal) (x : Record) → 15 ≤ x.len → kill_place how x + length (kill_bytes how x) ≤ x.at + x.len
 removal_fits Removal.Invalidate x l = omega arith
 removal_fits Removal.Zeroise x l = omega (arith, kill_length_lem Removal.Zeroise x l)
 
--- A plan that does not end with an answer.
-pub not_end : (next : Then) → ((answer : Answer) → next ≡ Then.Ends answer → ⊥) → Refused Refusal.BadCall ≡ end_of next
-not_end (Then.Ends answer) k = absurd (k answer refl)
-not_end (Then.Seek aim i seen) k = refl
-not_end (Then.Sweep r k) h = refl
-not_end (Then.Gives r x again) k = refl
-
 -- Append: the first check lets the call pass, and the lookup's end makes the plan.
-module _ (image : List ℕ) (s n key : ℕ) (value : List ℕ) {check : Check} (checked : check ≡ first_refusal image s n key (length value)) (passed : check ≡ Check.Fine) where
+module _ (image : List ℕ) (s n key : ℕ) (value : List ℕ) {check : Result (Unit {0}) Refusal} (checked : check ≡ first_refusal image s n key (length value)) (passed : check ≡ Ok tt) where
   pub append_allowed : Fits image s n × (length value ≤ 4079)
   append_allowed = let (f, _, short) = fine image s n key (length value) (sym checked ∙ passed) in (f, short)
 
@@ -70,13 +60,13 @@ module _ (image : List ℕ) (s n key : ℕ) (value : List ℕ) {check : Check} (
         go (Looked.Through seen) e = placed _ (λ r o blank k. (placed_at image s n key (record_length (length value)) r o blank seen append_allowed.0 e k).0)
 
 -- A removal: the key's record is found, and makes the plan.
-module _ (how : Removal) (image : List ℕ) (s n key : ℕ) {hit : Hit} {p : Plan} (looks : hit ≡ hit_of image s n key) (planned : p ≡ remove_plan how hit) where
+module _ (how : Removal) (image : List ℕ) (s n key : ℕ) {hit : Result Hit Refusal} {p : Plan} (looks : hit ≡ hit_of image s n key) (planned : p ≡ remove_plan how hit) where
   pub remove_is : carried s key [] image p ≡ remove_of how image s n key
   unfolding remove_of
   remove_is = rw (planned, looks)
 
   -- the image is allowed, and the record lies in it
-  pub remove_fits : {r : ℕ} {x : Record} → hit ≡ Hit.Live r x → Fits image s n × (edits_fit s n 0 p.edits ≡ true)
+  pub remove_fits : {r : ℕ} {x : Record} → hit ≡ hits r x → Fits image s n × (edits_fit s n 0 p.edits ≡ true)
   remove_fits {r} {x} e =
       let h = held image s n key r x (sym looks ∙ e) in
       (h.fit, rw (planned, e) (join (lt-ltb r n h.found.number) (record_fits_lem s x (h.found.least, h.found.short, h.found.fits))))

@@ -1,11 +1,10 @@
 -- Append, the two removals and initialise in one call: for any image, S, N, key and value, what each answers and leaves.
-use Rattle.std.specs.Prelude.{ℕ, ◌*◌, cond, List, [], length}
+use Rattle.std.specs.Prelude.{ℕ, ◌*◌, cond, List, [], length, Result, Ok, Err}
 use Rattle.chip.specs.Chip.{erased}
 use Rattle.probe.specs.Probe.{probes}
 use Rattle.format.specs.declared.Removal.{Removal}
 use Rattle.format.specs.Layout.{record_length}
 use Rattle.refusals.specs.declared.Refusal.{Refusal}
-use Rattle.refusals.specs.declared.Check.{Check}
 use Rattle.lookup.specs.declared.Need.{Need}
 use Rattle.lookup.specs.declared.Looked.{Looked}
 use Rattle.lookup.specs.declared.Hit.{Hit}
@@ -47,9 +46,9 @@ abbrev pub append_by : ℕ → List ℕ → ℕ → List ℕ → Looked → Done
 append_by s image key value looked = carried s key value image (append_plan looked)
 
 -- R5.3, R7.2: where the arguments are refused nothing is read; else the key is looked up over all N regions.
-abbrev pub append_after : List ℕ → ℕ → ℕ → ℕ → List ℕ → Check → Done
-append_after image s n key value (Check.Refused w) = refused w image
-append_after image s n key value Check.Fine =
+abbrev pub append_after : List ℕ → ℕ → ℕ → ℕ → List ℕ → Result (Unit {0}) Refusal → Done
+append_after image s n key value (Err w) = refused w image
+append_after image s n key value (Ok u) =
     append_by s image key value (lookup_in key (Need.Room (record_length (length value))) s image (probes key n))
 
 -- R5.3, R5.4: append in one call.
@@ -57,7 +56,7 @@ unfoldable pub append_of : List ℕ → ℕ → ℕ → ℕ → List ℕ → Don
 append_of image s n key value = append_after image s n key value (first_refusal image s n key (length value))
 
 -- R5.5, R5.6: a removal, by what its lookup came to: the checksum is not looked at.
-abbrev pub remove_by : Removal → ℕ → List ℕ → ℕ → Hit → Done
+abbrev pub remove_by : Removal → ℕ → List ℕ → ℕ → Result Hit Refusal → Done
 remove_by how s image key hit = carried s key [] image (remove_plan how hit)
 
 -- R5.5, R5.6: invalidate and zeroise in one call.

@@ -31,7 +31,7 @@ pub fn garbage_collect(image: &mut [u8], s: usize, n: usize) -> Answer
                 freed += s;
                 r += 1;
             }
-            Verdict::Bad { fault, place: _ } => break Answer::Refused(Refusal::of(fault)),
+            Verdict::Bad { fault, place: _ } => break Answer::Refused(fault.into()),
         }
     }
 }

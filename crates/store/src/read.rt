@@ -2,7 +2,6 @@
 ghost use Rattle.std.specs.Prelude.{◌≡◌};
 ghost use Rattle.store.specs.Read.{get_of};
 
-use lookup::Hit;
 use plans::Answer;
 use region::Standing;
 
@@ -10,15 +9,14 @@ use region::Standing;
 pub fn get_key(image: &[u8], s: usize, n: usize, key: u64, buffer: &mut [u8]) -> Answer
     ensures { (result ≡ (get_of image.now s n key buffer.old).answer) × (buffer.new ≡ (get_of image.now s n key buffer.old).buffer) }
 {
-    let hit = lookup::find_key(image, s, n, key);
-    match hit {
-        Hit::Refused(refusal) => Answer::Refused(refusal),
-        Hit::Live { region, rec } => {
-            let a = region * s;
+    match lookup::find_key(image, s, n, key) {
+        Err(refusal) => Answer::Refused(refusal),
+        Ok(hit) => {
+            let a = hit.region * s;
             let e = a + s;
             let found = Standing {
                 region: &image[a..e],
-                rec,
+                rec: hit.rec,
             };
             let capacity = buffer.len();
             values::copy_value(&found, buffer);

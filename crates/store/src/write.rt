@@ -7,9 +7,9 @@ ghost use Rattle.plans.specs.Fits.{edit_fits, edits_fit};
 ghost use Rattle.store.specs.Write.{end_of, carried, append_of, remove_of, initialise_of};
 
 use format::{Record, Removal};
-use lookup::{Hit, Need};
+use lookup::Need;
 use plans::{Answer, Edit, Edits, First, Plan, Then};
-use refusals::{Check, Refusal};
+use refusals::Refusal;
 
 // One edit of an image.
 fn make_edit(image: &mut [u8], s: usize, n: usize, edit: Edit, key: u64, value: &[u8])
@@ -75,7 +75,7 @@ pub fn append_key(image: &mut [u8], s: usize, n: usize, key: u64, value: &[u8]) 
     ensures { (result ≡ (append_of image.old s n key value.now).answer) × (image.new ≡ (append_of image.old s n key value.now).image) }
 {
     let check = refusals::first_refusal(&image[..], s, n, key, value.len());
-    if let Check::Refused(refusal) = check {
+    if let Err(refusal) = check {
         return Answer::Refused(refusal);
     }
     let need = Need::Room(value.len() + Record::LEAST);
@@ -89,7 +89,7 @@ fn remove(image: &mut [u8], s: usize, n: usize, key: u64, how: Removal) -> Answe
     ensures { (result ≡ (remove_of how image.old s n key).answer) × (image.new ≡ (remove_of how image.old s n key).image) }
 {
     let hit = lookup::find_key(&image[..], s, n, key);
-    if let Hit::Refused(refusal) = hit {
+    if let Err(refusal) = hit {
         return Answer::Refused(refusal);
     }
     let plan = planning::remove_plan(how, hit);

@@ -59,6 +59,6 @@ pub fn sweep_plan(s: usize, n: usize, r: usize, k: usize, verdict: Verdict) -> P
             edits: Edits::One(Edit::Erase { region: r }),
             next: swept_to(s, n, r + 1, k + 1),
         },
-        Verdict::Bad { fault, place: _ } => plans::refuse(Refusal::of(fault)),
+        Verdict::Bad { fault, place: _ } => plans::refuse(fault.into()),
     }
 }

@@ -10,6 +10,7 @@ use lib.Dec.{ltb}
 use lib.ListN.{length, take, drop, length-drop}
 use lib.Seq.{take-take, drop-drop, length-take-le}
 use borrow.Author.Tests.{ltb-true, le-ltb}
+use Rattle.std.specs.Prelude.{Result, Ok, Err}
 use Rattle.chip.specs.Geometry.{geometry, region_of}
 use Rattle.probe.specs.Probe.{allowed_key, probes}
 use Rattle.chip.proofs.Lists.{drop-take}
@@ -18,12 +19,11 @@ use Rattle.format.specs.declared.Fault.{Fault}
 use Rattle.format.specs.declared.Fault.TheVariants.{UnsupportedVersion, CorruptData}
 use Rattle.region.specs.Walk.{value_length, value_in}
 use Rattle.refusals.specs.declared.Refusal.{Refusal}
-use Rattle.refusals.specs.declared.Check.{Check}
 use Rattle.refusals.specs.Refusals.{value_of as carried, refusal_of, first_refusal}
 use Rattle.lookup.specs.declared.Need.{Need}
 use Rattle.lookup.specs.declared.Looked.{Looked}
 use Rattle.lookup.specs.declared.Hit.{Hit}
-use Rattle.lookup.specs.Turns.{lookup_in, hit_by, hit_after, hit_of}
+use Rattle.lookup.specs.Turns.{lookup_in, hit_by, hit_after, hit_of, hits}
 use Rattle.lookup.proofs.Ends.{held}
 use Rattle.plans.specs.declared.Answer.{Answer}
 use Rattle.plans.specs.declared.Answer.TheVariants.{Complete, Written, Freed, Refused}
@@ -78,18 +78,18 @@ unfolding get_of located_of
 got_answer image s n key buffer = go (hit_of image s n key) refl
   where
     short : (r : ℕ) (x : Record) → x.len ≤ 4095 → (b : Bool) → ltb (length buffer) (value_length x) ≡ b
-        → (read_answer (region_of s image r) x (length buffer) ≡ answer_of (located_by s image (Hit.Live r x))) ⊎ ((len : ℕ) × ((read_answer (region_of s image r) x (length buffer) ≡ Refused (Refusal.BufferTooSmall len)) × (length buffer < len) × (len ≤ 4080)))
+        → (read_answer (region_of s image r) x (length buffer) ≡ answer_of (located_by s image (hits r x))) ⊎ ((len : ℕ) × ((read_answer (region_of s image r) x (length buffer) ≡ Refused (Refusal.BufferTooSmall len)) × (length buffer < len) × (len ≤ 4080)))
     short r x m true t = inr (value_length x, (rw t, ltb-true _ _ t, omega arith))
     short r x m false t = inl (rw t (by_sum (sound_in (region_of s image r) x) refl))
       where
-        by_sum : (b : Bool) → sound_in (region_of s image r) x ≡ b → cond (sound_in (region_of s image r) x) (Complete (value_length x)) (Refused Refusal.InvalidCheckSum) ≡ answer_of (located_by s image (Hit.Live r x))
+        by_sum : (b : Bool) → sound_in (region_of s image r) x ≡ b → cond (sound_in (region_of s image r) x) (Complete (value_length x)) (Refused Refusal.InvalidCheckSum) ≡ answer_of (located_by s image (hits r x))
         by_sum true e = rw e
         by_sum false e = rw e
 
-    go : (hit : Hit) → hit_of image s n key ≡ hit
+    go : (hit : Result Hit Refusal) → hit_of image s n key ≡ hit
         → ((got_by s image buffer (hit_of image s n key)).answer ≡ answer_of (located_by s image (hit_of image s n key))) ⊎ ((len : ℕ) × (((got_by s image buffer (hit_of image s n key)).answer ≡ Refused (Refusal.BufferTooSmall len)) × (length buffer < len) × (len ≤ 4080)))
-    go (Hit.Refused w) e = inl (rw e)
-    go (Hit.Live r x) e = rw e (short r x (held image s n key r x e).found.short (ltb (length buffer) (value_length x)) refl)
+    go (Err w) e = inl (rw e)
+    go (Ok h) e = rw e (short h.region h.rec (held image s n key h.region h.rec e).found.short (ltb (length buffer) (value_length h.rec)) refl)
 
 -- No lookup ends with BufferTooSmall, the one refusal that carries something. Nothing is odd about Complete, and about a refusal that carries
 -- nothing.
@@ -106,14 +106,14 @@ not_odd_fault CorruptData = refl
 not_odd_looked : (s : ℕ) (image : List ℕ) (looked : Looked) → odd (answer_of (located_by s image (hit_by looked))) ≡ []
 not_odd_looked s image (Looked.Live r x) = go (sound_in (region_of s image r) x) refl
   where
-    go : (b : Bool) → sound_in (region_of s image r) x ≡ b → odd (answer_of (located_by s image (Hit.Live r x))) ≡ []
+    go : (b : Bool) → sound_in (region_of s image r) x ≡ b → odd (answer_of (located_by s image (hits r x))) ≡ []
     go true e = rw e
     go false e = rw e
 not_odd_looked s image (Looked.Bad f p) = not_odd_fault f
 not_odd_looked s image (Looked.Through seen) = refl
 
 not_odd_after : (image : List ℕ) (s n key : ℕ) (a b c : Bool)
-    → odd (answer_of (located_by s image (hit_after image s n key (cond (not a) (Check.Refused Refusal.BadGeometry) (cond (not b) (Check.Refused Refusal.BadKey) (cond c (Check.Refused Refusal.ObjectTooLarge) Check.Fine)))))) ≡ []
+    → odd (answer_of (located_by s image (hit_after image s n key (cond (not a) (Err Refusal.BadGeometry) (cond (not b) (Err Refusal.BadKey) (cond c (Err Refusal.ObjectTooLarge) (Ok (tt {0})))))))) ≡ []
 not_odd_after image s n key false b c = refl
 not_odd_after image s n key true false c = refl
 not_odd_after image s n key true true true = refl

@@ -8,46 +8,46 @@ use Rattle.chip.proofs.Image.{part_region}
 use Rattle.lookup.proofs.Ends.{Held, held}
 use Rattle.lending.specs.Lending.{located_in, located_by, located_of}
 use Rattle.lending.proofs.find_value.Goals as goal
-use Rattle.lending.proofs.find_value.Goals.{In-Live}
+use Rattle.lending.proofs.find_value.Goals.{In-Ok}
 
 -- the record that is found
-here : (c : In-Live) → let a = c.args in Held a.image.now a.s a.n a.key c.in-Live.region c.in-Live.rec
-here c = held _ _ _ _ _ _ (sym c.find_key-hit.ensures ∙ c.in-Live.is)
+here : (c : In-Ok) → let a = c.args in Held a.image.now a.s a.n a.key c.in-Ok.hit.region c.in-Ok.hit.rec
+here c = held _ _ _ _ _ _ (sym c.in-Ok.ensures)
 
 -- src/lib.rt:52:21
 pub overflow_mul-a : goal.overflow_mul-a
-overflow_mul-a c = let h = here (goal.at.overflow_mul-a c).In-Live in omega (arith, h.inside, h.small)
+overflow_mul-a c = let h = here (goal.at.overflow_mul-a c).In-Ok in omega (arith, h.inside, h.small)
 
 -- src/lib.rt:53:21
 pub overflow_add-e : goal.overflow_add-e
-overflow_add-e c = let h = here (goal.at.overflow_add-e c).In-Live in omega (arith, h.inside, h.small)
+overflow_add-e c = let h = here (goal.at.overflow_add-e c).In-Ok in omega (arith, h.inside, h.small)
 
 -- src/lib.rt:54:20
 pub slice_bounds-locate-end : goal.slice_bounds-locate-end
-slice_bounds-locate-end c = (here (goal.at.slice_bounds-locate-end c).In-Live).inside
+slice_bounds-locate-end c = (here (goal.at.slice_bounds-locate-end c).In-Ok).inside
 
 -- src/lib.rt:54:13
 pub locate-requires : goal.locate-requires
 locate-requires c =
-    let h = here (goal.at.locate-requires c).In-Live in
+    let h = here (goal.at.locate-requires c).In-Ok in
     let a = c.args in
-    let part = part_region a.s a.image.now c.in-Live.region in
+    let part = part_region a.s a.image.now c.in-Ok.hit.region in
     (h.found.least, rw (part, h.size) h.found.fits, rw (part, h.size) (omega (arith, h.inside, h.small)))
 
 -- src/lib.rt:45:1
-pub returns-in-Refused : goal.returns-in-Refused
+pub returns-in-Err : goal.returns-in-Err
 unfolding located_of
-returns-in-Refused c =
+returns-in-Err c =
     let a = c.args in
-    ap (located_by a.s a.image.now) (sym c.in-Refused.is ∙ c.find_key-hit.ensures)
+    ap (located_by a.s a.image.now) (c.in-Err.ensures)
 
 -- src/lib.rt:45:1
-pub returns-in-Live : goal.returns-in-Live
+pub returns-in-Ok : goal.returns-in-Ok
 unfolding located_of
-returns-in-Live c =
+returns-in-Ok c =
     let a = c.args in
-    let r = c.in-Live.region in
-    let x = c.in-Live.rec in
+    let r = c.in-Ok.hit.region in
+    let x = c.in-Ok.hit.rec in
     c.locate.ensures
     ∙ ap (λ (region : List ℕ). located_in region (r * a.s) x) (part_region a.s a.image.now r)
-    ∙ ap (located_by a.s a.image.now) (sym c.in-Live.is ∙ c.find_key-hit.ensures)
+    ∙ ap (located_by a.s a.image.now) (c.in-Ok.ensures)

@@ -25,6 +25,6 @@ returns c =
     let a = c.args in
     let s = c.step-stepped.ensures in
     let runs = known a.op (sym c.stands.ensures ∙ not-false _ c.if-not-stands.false-raw) ∙ ap KnownOp.Known (sym c.read_as.ensures) in
-    let said = sym c.known_reply-said.ensures ∙ c.in-Known.is in
+    let said = sym c.known_reply-said.ensures ∙ c.in-Some.is in
     let (t, r, l) = fit a.op a.reply a.region.now a.value.now a.buffer.now _ _ runs said in
     ((λ i. record { op = c.pack.ensures i; request = c.request_numbers.ensures i }) ∙ ap packed_step s.0 ∙ sym t, s.1 ∙ sym r, s.2 ∙ sym l)

@@ -46,4 +46,4 @@ returns-then-r-n c = swept_end c.loop-r.invariant c.if-r-n.true
 
 pub returns-in-Bad : goal.returns-in-Bad
 returns-in-Bad c =
-    swept_bad c.loop-r.invariant c.if-r-n.false c.judge-verdict.ensures c.in-Bad.is c.of.ensures
+    swept_bad c.loop-r.invariant c.if-r-n.false c.judge-verdict.ensures c.in-Bad.is c.into.ensures

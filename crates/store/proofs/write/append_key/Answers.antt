@@ -13,9 +13,9 @@ use Rattle.store.proofs.write.append_key.Goals.{In_default}
 allowed : (c : In_default) → let a = c.args in Fits a.image.now a.s a.n × (length a.value.now ≤ 4079)
 allowed c = let a = c.args in append_allowed a.image.now a.s a.n a.key a.value.now c.first_refusal-check.ensures c.in_default.is
 
-pub returns-in-Refused : goal.returns-in-Refused
+pub returns-in-Err : goal.returns-in-Err
 unfolding append_of
-returns-in-Refused c = rw (sym c.first_refusal-check.ensures ∙ c.in-Refused.is) (refl, refl)
+returns-in-Err c = rw (sym c.first_refusal-check.ensures ∙ c.in-Err.is) (refl, refl)
 
 pub look_up-looked-requires : goal.look_up-looked-requires
 look_up-looked-requires c = (allowed (goal.at.look_up-looked-requires c).In_default).0

@@ -7,9 +7,9 @@ use Rattle.store.specs.Write.{Done, remove_of}
 use Rattle.store.proofs.Ends.{remove_is, remove_fits}
 use Rattle.store.proofs.write.remove.Goals as goal
 
-pub returns-in-Refused : goal.returns-in-Refused
+pub returns-in-Err : goal.returns-in-Err
 unfolding remove_of applied
-returns-in-Refused c = rw (sym c.find_key-hit.ensures ∙ c.in-Refused.is) (refl, refl)
+returns-in-Err c = rw (sym c.find_key-hit.ensures ∙ c.in-Err.is) (refl, refl)
 
 pub carry_out-requires : goal.carry_out-requires
 carry_out-requires c =
