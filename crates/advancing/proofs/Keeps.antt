@@ -7,6 +7,10 @@ use mathlib.Core.Bool.{Bool, true, false, cond, true≢false}
 use mathlib.Core.List.{List}
 use lib.Dec.{ltb}
 use lib.ListN.{length, get_or}
+use Rattle.plans.specs.declared.Edit.{Edit}
+use Rattle.std.specs.declared.ops.ControlFlow.TheVariants.{Break, Continue}
+use Rattle.std.specs.declared.ops.ControlFlow.{ControlFlow}
+use Rattle.std.specs.Prelude.{Option, Some, None}
 use Rattle.probe.specs.Probe.{probes}
 use Rattle.probe.proofs.Theorems.{in_range}
 use Rattle.region.specs.declared.Want.{Want}
@@ -14,12 +18,10 @@ use Rattle.region.specs.declared.Event.{Event}
 use Rattle.region.specs.Walk.{event_in}
 use Rattle.lookup.specs.declared.Seen.{Seen}
 use Rattle.lookup.specs.declared.Looked.{Looked}
-use Rattle.lookup.specs.declared.Turn.{Turn}
 use Rattle.lookup.specs.Turns.{turn, turn_of, close}
 use Rattle.lookup.proofs.Scan.{found_lies}
 use Rattle.plans.specs.declared.Aim.{Aim}
 use Rattle.plans.specs.declared.Lent.{Lent}
-use Rattle.plans.specs.declared.First.{First}
 use Rattle.plans.specs.declared.Edits.{Edits}
 use Rattle.plans.specs.declared.Then.{Then}
 use Rattle.plans.specs.declared.Plan.{Plan}
@@ -38,9 +40,9 @@ use Rattle.advancing.specs.Advance.{closes, turned_to, advance_next, advance_fir
 use Rattle.planning.proofs.Gathered.{noted_fits}
 
 -- What a lookup's turn leaves: an end that is known, or more that was gathered and lies in the chip.
-pub data TurnKnown (s n len : ℕ) : Turn → Type 0 where
-  stop : {looked : Looked} → Known s n len looked → TurnKnown s n len (Turn.Stop looked)
-  more : {seen : Seen} → seen_fits s n len seen ≡ true → TurnKnown s n len (Turn.More seen)
+pub data TurnKnown (s n len : ℕ) : ControlFlow Looked Seen → Type 0 where
+  stop : {looked : Looked} → Known s n len looked → TurnKnown s n len (Break looked)
+  more : {seen : Seen} → seen_fits s n len seen ≡ true → TurnKnown s n len (Continue seen)
 
 -- Once its value is given, if it gives one, a plan fits.
 pub given_rests : (s n : ℕ) (lent : Lent) (region : List ℕ) (p : Plan) → 1 ≤ n → Sound s n lent p → PlanFits s n lent (given n lent region p)
@@ -71,17 +73,17 @@ module _ (op : Op) (region : List ℕ) (k : Ruled op) (l : length region ≡ op.
   ended : (aim : Aim) (looked : Looked) → lent_for aim op.lent ≡ true → Known op.s op.n (value_lent op.lent) looked → Sound op.s op.n op.lent (plan aim op.n looked)
   ended aim looked a q = plan_sound op.s op.n op.lent good.value_short_lem aim looked a k.shape.n_least q
 
-  turned : (aim : Aim) (i : ℕ) (t : Turn) → lent_for aim op.lent ≡ true → TurnKnown op.s op.n (value_lent op.lent) t
+  turned : (aim : Aim) (i : ℕ) (t : ControlFlow Looked Seen) → lent_for aim op.lent ≡ true → TurnKnown op.s op.n (value_lent op.lent) t
       → Sound op.s op.n op.lent (turned_to aim op.n i (closes op.n i t))
-  turned aim i (Turn.Stop looked) a (stop q) = ended aim looked a q
-  turned aim i (Turn.More seen) a (more q) = go (ltb (i + 1) op.n) refl
+  turned aim i (Break looked) a (stop q) = ended aim looked a q
+  turned aim i (Continue seen) a (more q) = go (ltb (i + 1) op.n) refl
     where
-      go : (b : Bool) → ltb (i + 1) op.n ≡ b → Sound op.s op.n op.lent (turned_to aim op.n i (cond b (Turn.More seen) (Turn.Stop (close seen))))
+      go : (b : Bool) → ltb (i + 1) op.n ≡ b → Sound op.s op.n op.lent (turned_to aim op.n i (cond b (Continue seen) (Break (close seen))))
       go true e = record { value_short_lem = good.value_short_lem; edits_good = refl; next_good = join a (join e q); settled = refl }
       go false e = ended aim (Looked.Through seen) a (through q)
 
   -- no edit is left
-  next_sound : (t : Then) → then_fits op.s op.n op.lent t ≡ true → rests First.Nothing t ≡ true → Sound op.s op.n op.lent (advance_next op region t)
+  next_sound : (t : Then) → then_fits op.s op.n op.lent t ≡ true → rests None t ≡ true → Sound op.s op.n op.lent (advance_next op region t)
   next_sound (Then.Ends answer) h c = fits_sound op.s op.n op.lent _ (ends_fits op.s op.n op.lent good.value_short_lem answer)
   next_sound (Then.Seek aim i seen) h c =
       let (a, b, f) = seek_facts op.s op.n op.lent aim i seen h in
@@ -94,9 +96,9 @@ module _ (op : Op) (region : List ℕ) (k : Ruled op) (l : length region ≡ op.
   pub advance_sound : Sound op.s op.n op.lent (advance op region)
   advance_sound = go (first op.plan.edits) refl
     where
-      go : (f : First) → first op.plan.edits ≡ f → Sound op.s op.n op.lent (advance_first op region f)
-      go (First.Do e) q = fits_sound op.s op.n op.lent _ (rest_of op.s op.n op.lent op.plan good q)
-      go First.Nothing q = next_sound op.plan.next good.next_good (subst (λ (f : First). rests f op.plan.next ≡ true) q good.at_rest)
+      go : (f : Option Edit) → first op.plan.edits ≡ f → Sound op.s op.n op.lent (advance_first op region f)
+      go (Some e) q = fits_sound op.s op.n op.lent _ (rest_of op.s op.n op.lent op.plan good q)
+      go None q = next_sound op.plan.next good.next_good (subst (λ (f : Option Edit). rests f op.plan.next ≡ true) q good.at_rest)
 
   -- Where it gives a value, the record lies in the region buffer.
   pub advance_gives : then_fits (length region) op.n op.lent (advance op region).next ≡ true

@@ -1,14 +1,16 @@
 -- What is left of a plan once its service is done, and get's copy.
-use Rattle.std.specs.Prelude.{ℕ, ◌+◌, cond, List, ltb, get_or}
+use Rattle.plans.specs.declared.Edit.{Edit}
+use Rattle.lookup.specs.declared.Looked.{Looked}
+use Rattle.std.specs.declared.ops.ControlFlow.TheVariants.{Break, Continue}
+use Rattle.std.specs.declared.ops.ControlFlow.{ControlFlow}
+use Rattle.std.specs.Prelude.{ℕ, ◌+◌, cond, List, ltb, get_or, Option, Some, None}
 use Rattle.probe.specs.Probe.{probes}
 use Rattle.format.specs.declared.Record.{Record}
 use Rattle.refusals.specs.declared.Refusal.{Refusal}
 use Rattle.lookup.specs.declared.Seen.{Seen}
-use Rattle.lookup.specs.declared.Turn.{Turn}
 use Rattle.lookup.specs.Turns.{turn_of, close}
 use Rattle.plans.specs.declared.Aim.{Aim}
 use Rattle.plans.specs.declared.Lent.{Lent}
-use Rattle.plans.specs.declared.First.{First}
 use Rattle.plans.specs.declared.Then.{Then}
 use Rattle.plans.specs.declared.Plan.{Plan}
 use Rattle.plans.specs.Writes.{value_lent, buffer_lent, first, rest, follows, refuses}
@@ -19,14 +21,14 @@ use Rattle.running.specs.declared.Op.{Op}
 use Rattle.running.specs.declared.Reply.{Reply}
 
 -- R5.1: the i-th of n regions was seen: one that decides ends the lookup, and so does the last one, where none decides.
-abbrev pub closes : ℕ → ℕ → Turn → Turn
-closes n i (Turn.Stop looked) = Turn.Stop looked
-closes n i (Turn.More seen) = cond (ltb (i + 1) n) (Turn.More seen) (Turn.Stop (close seen))
+abbrev pub closes : ℕ → ℕ → ControlFlow Looked Seen → ControlFlow Looked Seen
+closes n i (Break looked) = Break looked
+closes n i (Continue seen) = cond (ltb (i + 1) n) (Continue seen) (Break (close seen))
 
 -- R5.1: what the lookup found says what its operation does; until then the next region in probe order comes.
-abbrev pub turned_to : Aim → ℕ → ℕ → Turn → Plan
-turned_to aim n i (Turn.Stop looked) = plan aim n looked
-turned_to aim n i (Turn.More seen) = follows (Then.Seek aim (i + 1) seen)
+abbrev pub turned_to : Aim → ℕ → ℕ → ControlFlow Looked Seen → Plan
+turned_to aim n i (Break looked) = plan aim n looked
+turned_to aim n i (Continue seen) = follows (Then.Seek aim (i + 1) seen)
 
 -- R5.1: the lookup's i-th region in probe order was read, and is walked: what is left then.
 abbrev pub seek_next : Op → Aim → ℕ → Seen → List ℕ → Plan
@@ -42,9 +44,9 @@ advance_next op region (Then.Sweep r k) = sweep_plan op.s op.n r k (verdict r re
 advance_next op region (Then.Gives r x anew) = follows (Then.Gives r x anew)
 
 -- R8.5: "done": what was written or erased is off the list, or a region was read.
-abbrev pub advance_first : Op → List ℕ → First → Plan
-advance_first op region (First.Do e) = record { edits = rest op.plan.edits; next = op.plan.next }
-advance_first op region First.Nothing = advance_next op region op.plan.next
+abbrev pub advance_first : Op → List ℕ → Option Edit → Plan
+advance_first op region (Some e) = record { edits = rest op.plan.edits; next = op.plan.next }
+advance_first op region None = advance_next op region op.plan.next
 
 -- R8.5: what is left of the plan once the service that was asked for is done.
 abbrev pub advance : Op → List ℕ → Plan

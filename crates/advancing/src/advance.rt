@@ -3,37 +3,36 @@ ghost use Rattle.std.specs.Prelude.{◌≡◌, true, ◌+◌, ◌≤◌, ◌<◌
 ghost use Rattle.plans.specs.Fits.{then_fits};
 ghost use Rattle.advancing.specs.Advance.{closes, turned_to, seek_next, advance, given, copied, filled, next_plan, buffer_on};
 
-use lookup::{Seen, Turn};
-use plans::{Aim, Edits, First, Lent, Plan, Then};
+use lookup::{Looked, Seen};
+use plans::{Aim, Edits, Lent, Plan, Then};
 use refusals::Refusal;
 use region::Standing;
 use running::{Reply, RuledOp};
+use std::ops::ControlFlow;
 
 // The last region's turn closes the lookup.
-fn closed(n: usize, i: usize, turn: Turn) -> Turn
+fn closed(n: usize, i: usize, turn: ControlFlow<Looked, Seen>) -> ControlFlow<Looked, Seen>
     requires { (i < n) × (n ≤ 64) }
     ensures { result ≡ closes n i turn }
 {
-    match turn {
-        Turn::Stop(_) => turn,
-        Turn::More(seen) => {
-            if i + 1 < n {
-                turn
-            } else {
-                Turn::Stop(seen.close())
-            }
-        }
+    let ControlFlow::Continue(seen) = turn else {
+        return turn;
+    };
+    if i + 1 < n {
+        turn
+    } else {
+        ControlFlow::Break(seen.close())
     }
 }
 
 // One more region of the probe order was seen, the i-th.
-fn turned_to(aim: Aim, n: usize, i: usize, turn: Turn) -> Plan
+fn turned_to(aim: Aim, n: usize, i: usize, turn: ControlFlow<Looked, Seen>) -> Plan
     requires { i < 64 }
     ensures { result ≡ turned_to aim n i turn }
 {
     match turn {
-        Turn::Stop(looked) => planning::plan_for(aim, n, looked),
-        Turn::More(seen) => Plan {
+        ControlFlow::Break(looked) => planning::plan_for(aim, n, looked),
+        ControlFlow::Continue(seen) => Plan {
             edits: Edits::Nil,
             next: Then::Seek {
                 aim,
@@ -67,8 +66,7 @@ fn advanced(ruled: RuledOp, region: &[u8]) -> Plan
     let plan = op.plan;
     let edits = plan.edits;
     let next = plan.next;
-    let first = plans::first_of(edits);
-    if let First::Do(_) = first {
+    if plans::first_of(edits).is_some() {
         return Plan {
             edits: plans::rest_of(edits),
             next,

@@ -7,7 +7,7 @@ use mathlib.Core.Bool.{true}
 use mathlib.Core.List.{List, ◌++◌}
 use lib.ListN.{length, take, drop, length-take, length-drop}
 use borrow.Author.Tests.{lt-ltb, le-ltb}
-use Rattle.std.specs.Prelude.{Ok}
+use Rattle.std.specs.Prelude.{Ok, Some, None}
 use Rattle.chip.specs.Geometry.{Fits, region_of}
 use Rattle.chip.proofs.Image.{fits_geometry}
 use Rattle.probe.specs.Probe.{allowed_key, probes}
@@ -15,7 +15,6 @@ use Rattle.format.specs.declared.Record.{Record}
 use Rattle.format.specs.Layout.{record_length, check_sum_fits}
 use Rattle.region.specs.Walk.{bytes_in, value_length, value_in}
 use Rattle.refusals.specs.declared.Refusal.{Refusal}
-use Rattle.lookup.specs.declared.Need.{Need}
 use Rattle.lookup.specs.declared.Looked.{Looked}
 use Rattle.refusals.specs.Refusals.{first_refusal}
 use Rattle.lookup.specs.Turns.{lookup_in, hit_by, hit_of, hits}
@@ -42,7 +41,7 @@ module _ {s n : ℕ} {image : List ℕ} (w : WellFormed s n image) (key : ℕ) w
   unfolding hit_of
   hit_bound b =
       let k : allowed_key key ≡ true = subst (λ (t : ℕ). allowed_key t ≡ true) b.key_is (w.keys b.region b.rec b.held) in
-      rw (fine_first image s n key 0 w.fits k (omega arith), is_found w key Need.Nothing b.region b.rec b.held b.key_is)
+      rw (fine_first image s n key 0 w.fits k (omega arith), is_found w key None b.region b.rec b.held b.key_is)
 
   -- its record says the value's length, and its sum is right
   long_of : {value : List ℕ} (b : Bound s n image key value) → (value_length b.rec ≡ length value) × (check_sum_fits (bytes_in (region_of s image b.region) b.rec) ≡ true)
@@ -69,13 +68,13 @@ module _ {s n : ℕ} {image : List ℕ} (w : WellFormed s n image) (key : ℕ) w
   pub get_unbound : (buffer : List ℕ) → allowed_key key ≡ true → ((value : List ℕ) → Bound s n image key value → ⊥)
       → get_of image s n key buffer ≡ record { answer = Refused Refusal.KeyNotFound; buffer = buffer }
   unfolding get_of hit_of
-  get_unbound buffer k none = rw (fine_first image s n key 0 w.fits k (omega arith)) (go (lookup_in key Need.Nothing s image (probes key n)) refl)
+  get_unbound buffer k none = rw (fine_first image s n key 0 w.fits k (omega arith)) (go (lookup_in key None s image (probes key n)) refl)
     where
-      go : (l : Looked) → lookup_in key Need.Nothing s image (probes key n) ≡ l → got_by s image buffer (hit_by l) ≡ record { answer = Refused Refusal.KeyNotFound; buffer = buffer }
+      go : (l : Looked) → lookup_in key None s image (probes key n) ≡ l → got_by s image buffer (hit_by l) ≡ record { answer = Refused Refusal.KeyNotFound; buffer = buffer }
       go (Looked.Live r x) e =
-          let (live-there, key_is) = found_live w key Need.Nothing r x e in
+          let (live-there, key_is) = found_live w key None r x e in
           absurd (none (value_in (region_of s image r) x) (record { region = r; rec = x; held = live-there; key_is = key_is; value_is = refl }))
-      go (Looked.Bad f p) e = absurd (never_bad w key Need.Nothing f p e)
+      go (Looked.Bad f p) e = absurd (never_bad w key None f p e)
       go (Looked.Through seen) e = refl
 
   -- append of a bound key is refused, whatever the value
@@ -83,4 +82,4 @@ module _ {s n : ℕ} {image : List ℕ} (w : WellFormed s n image) (key : ℕ) w
   unfolding append_of applied
   append_bound b value l =
       let k : allowed_key key ≡ true = subst (λ (t : ℕ). allowed_key t ≡ true) b.key_is (w.keys b.region b.rec b.held) in
-      rw (fine_first image s n key (length value) w.fits k l, is_found w key (Need.Room (record_length (length value))) b.region b.rec b.held b.key_is)
+      rw (fine_first image s n key (length value) w.fits k l, is_found w key (Some (record_length (length value))) b.region b.rec b.held b.key_is)

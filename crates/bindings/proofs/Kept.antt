@@ -8,6 +8,7 @@ use mathlib.Core.Logic.{◌⊎◌, inl, inr, ⊎_elim, ◌↔◌}
 use mathlib.Core.List.{List}
 use lib.ListN.{length, take, drop}
 use lib.Seq.{take_all}
+use Rattle.std.specs.Prelude.{Some}
 use Rattle.chip.specs.Chip.{Bytes, written, erased, is_blank}
 use Rattle.chip.specs.Geometry.{region_of, erase_region}
 use Rattle.chip.proofs.Image.{region-length}
@@ -21,7 +22,6 @@ use Rattle.region.specs.Walk.{records, bytes_in, value_in, record_of, is_wanted}
 use Rattle.format.proofs.Bytes.{length_record}
 use Rattle.region.proofs.Theorems.{append_writes, reads_back, records_within}
 use Rattle.region.proofs.Search.{None}
-use Rattle.lookup.specs.declared.Need.{Need}
 use Rattle.lookup.specs.declared.Seen.{Seen}
 use Rattle.lookup.specs.declared.Looked.{Looked}
 use Rattle.lookup.specs.Turns.{lookup_in}
@@ -42,7 +42,7 @@ carried b l e = record { region = b.region; rec = b.rec; held = l; key_is = b.ke
 
 -- Append writes at the end of a region whose tail is blank.
 module _ {s n : ℕ} {image : List ℕ} (w : WellFormed s n image) (key : ℕ) (value : List ℕ) (k : key < 2 ^ 64) (v : Bytes value)
-    (a : Allowed image s n key (length value)) (seen : Seen) (e : lookup_in key (Need.Room (record_length (length value))) s image (probes key n) ≡ Looked.Through seen)
+    (a : Allowed image s n key (length value)) (seen : Seen) (e : lookup_in key (Some (record_length (length value))) s image (probes key n) ≡ Looked.Through seen)
     (r o : ℕ) (h : r < n) (y : Roomy image s (record_length (length value)) r o true) where
   ground : Sound (region_of s image r)
   ground = sound_region w r h
@@ -65,7 +65,7 @@ module _ {s n : ℕ} {image : List ℕ} (w : WellFormed s n image) (key : ℕ) (
       well_formed_after changed effect w (sound_append (region_of s image r) ground key value fits k a.size v)
       (λ x q. rw q a.key_is)
       (λ x z q t. q ∙ sym t)
-      (λ x z q d l t. not_there w key (Need.Room (record_length (length value))) seen e q z l (sym t ∙ ap (λ (b : Record). b.key) d))
+      (λ x z q d l t. not_there w key (Some (record_length (length value))) seen e q z l (sym t ∙ ap (λ (b : Record). b.key) d))
 
   place_blank : is_blank (take (record_length (length value)) (drop ground.end (region_of s image r))) ≡ true
   place_blank = rw at_end (sym y.blankness)

@@ -7,13 +7,15 @@ use mathlib.Core.Bool.{Bool, true, false}
 use mathlib.Core.Logic.{inr}
 use mathlib.Core.List.{List, [], ◌∷◌}
 use lib.ListN.{length}
+use Rattle.lookup.specs.declared.Looked.{Looked}
+use Rattle.std.specs.declared.ops.ControlFlow.TheVariants.{Break, Continue}
+use Rattle.std.specs.declared.ops.ControlFlow.{ControlFlow}
+use Rattle.std.specs.Prelude.{Option, None}
 use Rattle.chip.specs.Chip.{Bytes, erased}
 use Rattle.chip.specs.Geometry.{region_of}
 use Rattle.format.specs.declared.Removal.{Removal}
 use Rattle.format.proofs.Numbers.{no_bytes}
-use Rattle.lookup.specs.declared.Need.{Need}
 use Rattle.lookup.specs.declared.Seen.{Seen}
-use Rattle.lookup.specs.declared.Turn.{Turn}
 use Rattle.lookup.specs.Turns.{turn_of, on_turn, read_from}
 use Rattle.plans.specs.Answers.{starts_anew}
 use Rattle.store.specs.Write.{Done, append_of, remove_of, initialise_by, initialise_of}
@@ -49,13 +51,13 @@ module _ {s n : ℕ} {image : List ℕ} (w : WellFormed s n image) where
   -- a removal
   remove_leaves : (how : Removal) (key : ℕ) (d : Done) → Removing how image s n key d → WellFormed s n d.image
   remove_leaves how key d (Removing.not_hit z t) = w
-  remove_leaves how key d (Removing.removes r x e) = remove_keeps w how r x (found_live w key Need.Nothing r x e).0
+  remove_leaves how key d (Removing.removes r x e) = remove_keeps w how r x (found_live w key None r x e).0
 
   remove_holds : (how : Removal) (key : ℕ) (d : Done) → Removing how image s n key d → (key' : ℕ) (value' : List ℕ) → (key ≡ key' → ⊥)
       → Bound s n image key' value' → Bound s n d.image key' value'
   remove_holds how key d (Removing.not_hit z t) key' value' other b = b
   remove_holds how key d (Removing.removes r x e) key' value' other b =
-      let (l, q) = found_live w key Need.Nothing r x e in
+      let (l, q) = found_live w key None r x e in
       (remove_unbinds w how r x l key' value').1 (b, λ p. other (sym q ∙ sym p))
 
 -- Any call.
@@ -94,12 +96,12 @@ all_hold s n key value [] image w b SparesAll.none = (w, b)
 all_hold s n key value (c ∷ cs) image w b (SparesAll.also t p rest) = all_hold s n key value cs (image_after c image s n) (call_keeps w c t) (call_holds w c t key p value b) rest
 
 -- a lookup reads no more regions than it is given
-pub read_most : (seen : Seen) (key : ℕ) (need : Need) (s : ℕ) (image rs : List ℕ) → length (read_from seen key need s image rs) ≤ length rs
+pub read_most : (seen : Seen) (key : ℕ) (need : Option ℕ) (s : ℕ) (image rs : List ℕ) → length (read_from seen key need s image rs) ≤ length rs
 unfolding read_from
 read_most seen key need s image [] = omega arith
 read_most seen key need s image (r ∷ rs) = go (turn_of seen key need r (region_of s image r)) (λ more. read_most more key need s image rs)
   where
-    go : (t : Turn) → ((more : Seen) → length (read_from more key need s image rs) ≤ length rs)
+    go : (t : ControlFlow Looked Seen) → ((more : Seen) → length (read_from more key need s image rs) ≤ length rs)
         → suc (length (on_turn t (λ looked. []) (λ more. read_from more key need s image rs))) ≤ suc (length rs)
-    go (Turn.Stop looked) h = omega arith
-    go (Turn.More more) h = omega (arith, h more)
+    go (Break looked) h = omega arith
+    go (Continue more) h = omega (arith, h more)

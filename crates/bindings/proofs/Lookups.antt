@@ -7,6 +7,7 @@ use mathlib.Core.Bool.{true, true≢false}
 use mathlib.Core.List.Memᴰ
 use mathlib.Core.List.{List, Memᴰ}
 use borrow.Author.Tests.{eq-eqb}
+use Rattle.std.specs.Prelude.{Option}
 use Rattle.chip.specs.Geometry.{region_of}
 use Rattle.probe.specs.Probe.{probes}
 use Rattle.probe.proofs.Theorems.{members}
@@ -19,7 +20,6 @@ use Rattle.format.specs.Layout.{live}
 use Rattle.region.specs.Walk.{records, is_wanted, event_in}
 use Rattle.region.proofs.Search.{None}
 use Rattle.region.proofs.Theorems.{live_decides, stop_decides}
-use Rattle.lookup.specs.declared.Need.{Need}
 use Rattle.lookup.specs.declared.Seen.{Seen}
 use Rattle.lookup.specs.declared.Looked.{Looked}
 use Rattle.lookup.specs.Turns.{lookup_in}
@@ -33,7 +33,7 @@ use Rattle.bindings.proofs.Members.{middle}
 is_wanted_lem : (key : ℕ) (x : Record) → live x ≡ true → x.key ≡ key → is_wanted (Want.Key key) x ≡ true
 is_wanted_lem key x l k = rw (l, eq-eqb x.key key k)
 
-module _ (key : ℕ) (need : Need) (s : ℕ) (image : List ℕ) where
+module _ (key : ℕ) (need : Option ℕ) (s : ℕ) (image : List ℕ) where
   -- Where a lookup ends at a bad place, one of its regions has one.
   bad_from : {seen : Seen} {rs : List ℕ} {f : Fault} {p : ℕ} → Looks key need s image seen rs (Looked.Bad f p)
       → (r : ℕ) × Memᴰ r rs × ((o : ℕ) × (event_in (region_of s image r) (Want.Key key) ≡ Event.Bad f o))
@@ -47,7 +47,7 @@ module _ (key : ℕ) (need : Need) (s : ℕ) (image : List ℕ) where
   through_none (Looks.more {r = q} {o = o} e rest) r (Memᴰ.head p) = rw p (stop_decides (region_of s image q) (Want.Key key) (Stop.End o) e).0
   through_none (Looks.more e rest) r (Memᴰ.tail m) = through_none rest r m
 
-module _ {s n : ℕ} {image : List ℕ} (w : WellFormed s n image) (key : ℕ) (need : Need) where
+module _ {s n : ℕ} {image : List ℕ} (w : WellFormed s n image) (key : ℕ) (need : Option ℕ) where
   -- no bad place is met
   pub never_bad : (f : Fault) (p : ℕ) → lookup_in key need s image (probes key n) ≡ Looked.Bad f p → ⊥
   never_bad f p h =

@@ -7,7 +7,7 @@ use mathlib.Core.Bool.{Bool, true, false, not, cond, true≢false}
 use mathlib.Core.List.{List, []}
 use lib.Dec.{ltb}
 use lib.ListN.{length, drop}
-use Rattle.std.specs.Prelude.{Result, Ok, Err}
+use Rattle.std.specs.Prelude.{Result, Ok, Err, Some, None}
 use Rattle.chip.specs.Chip.{erased}
 use Rattle.chip.specs.Geometry.{geometry, region_of}
 use Rattle.chip.proofs.Laws.{blank-take}
@@ -17,7 +17,6 @@ use Rattle.format.specs.declared.Removal.{Removal}
 use Rattle.format.specs.Layout.{record_length, check_sum_fits}
 use Rattle.region.specs.Walk.{bytes_in, value_length}
 use Rattle.refusals.specs.declared.Refusal.{Refusal}
-use Rattle.lookup.specs.declared.Need.{Need}
 use Rattle.lookup.specs.declared.Hit.{Hit}
 use Rattle.refusals.specs.Refusals.{number, first_refusal}
 use Rattle.lookup.specs.Turns.{hit_of}
@@ -70,17 +69,17 @@ module _ {s n : ℕ} {image : List ℕ} (w : WellFormed s n image) where
 
   miss_sane : (key : ℕ) (z : Refusal) → Hitting image s n key (Err z) → Sane (Answer.Refused z)
   miss_sane key _ (Hitting.early z e) = sane_early z (first_number image s n key 0 z e)
-  miss_sane key z (Hitting.bad f p a e) = absurd (never_bad w key Need.Nothing f p e)
+  miss_sane key z (Hitting.bad f p a e) = absurd (never_bad w key None f p e)
   miss_sane key z (Hitting.missing seen a e) = sane_at _ 4 refl (λ q. omega arith) (λ q. omega arith) (λ q. omega arith)
 
   get_sane : (key : ℕ) (buffer : List ℕ) (t : Result Hit Refusal) → Hitting image s n key t → Sane (got_by s image buffer t).answer
   get_sane key buffer (Err z) h = miss_sane key z h
-  get_sane key buffer (Ok _) (Hitting.hit r x a e) = read_sane (region_of s image r) x (length buffer) (w.sums r x (found_live w key Need.Nothing r x e).0)
+  get_sane key buffer (Ok _) (Hitting.hit r x a e) = read_sane (region_of s image r) x (length buffer) (w.sums r x (found_live w key None r x e).0)
 
   append_sane : (key : ℕ) (value : List ℕ) (d : Done) → Appending image s n key value d → Sane d.answer
   append_sane key value d (Appending.early z e) = sane_early z (first_number image s n key (length value) z e)
   append_sane key value d (Appending.there r x a e) = sane_at _ 5 refl (λ q. omega arith) (λ q. omega arith) (λ q. omega arith)
-  append_sane key value d (Appending.bad f p a e) = absurd (never_bad w key (Need.Room (record_length (length value))) f p e)
+  append_sane key value d (Appending.bad f p a e) = absurd (never_bad w key (Some (record_length (length value))) f p e)
   append_sane key value d (Appending.full seen a e q) = sane_at _ 6 refl (λ q. omega arith) (λ q. omega arith) (λ q. omega arith)
   append_sane key value d (Appending.unblank seen r o a e h y) =
       absurd (true≢false (sym (blank-take (record_length (length value)) (drop o (region_of s image r)) (w.tails r o h y.ends)) ∙ sym y.blankness))

@@ -9,6 +9,7 @@ use mathlib.Core.Bool.{true}
 use mathlib.Core.Logic.{◌⊎◌, inl, ⊎_elim, ◌↔◌}
 use mathlib.Core.List.{List, [], ◌++◌, Memᴰ}
 use lib.ListN.{length, get_or, take, drop}
+use Rattle.std.specs.Prelude.{None}
 use Rattle.chip.specs.Chip.{Bytes, written, erased}
 use Rattle.chip.specs.Geometry.{Shape, region_of, erase_region}
 use Rattle.chip.specs.Every.{Every}
@@ -22,7 +23,6 @@ use Rattle.format.specs.Layout.{record_length, record_bytes}
 use Rattle.format.proofs.Numbers.{no_bytes}
 use Rattle.region.specs.Walk.{ending}
 use Rattle.refusals.specs.declared.Refusal.{Refusal}
-use Rattle.lookup.specs.declared.Need.{Need}
 use Rattle.lookup.specs.Gather.{unseen}
 use Rattle.lookup.specs.Turns.{regions_read}
 use Rattle.plans.specs.declared.Answer.TheVariants.{Complete, Written, Freed, Refused}
@@ -83,7 +83,7 @@ removal_takes {s} {n} {image} w how key h = go (remove_of how image s n key) (re
         → (key' : ℕ) (value' : List ℕ) → Bound s n d.image key' value' ↔ (Bound s n image key' value' × (key' ≡ key → ⊥))
     go d (Removing.not_hit z t) h = absurd (let q : ◌≡◌ {A = ℕ} 0 1 = cc in omega arith)
     go d (Removing.removes r x e) h = λ key' value'.
-        let (l, q) = found_live w key Need.Nothing r x e in
+        let (l, q) = found_live w key None r x e in
         subst (λ (k : ℕ). Bound s n (removed how s image r x) key' value' ↔ (Bound s n image key' value' × (key' ≡ k → ⊥))) q (Kept.remove_unbinds w how r x l key' value')
 
 -- R11.4: collect alters no binding, and it is not refused.
@@ -164,13 +164,13 @@ pub bound_is_found : {s n : ℕ} {image : List ℕ} → WellFormed s n image →
     WellFormed s n later
     × Bound s n later key value
     × (get_of later s n key buffer ≡ record { answer = Complete (length value); buffer = value ++ drop (length value) buffer })
-    × (length (regions_read key Need.Nothing s later (probes key n)) ≤ n)
+    × (length (regions_read key None s later (probes key n)) ≤ n)
 bound_is_found {s} {n} {image} w key value b calls p buffer l =
     let (last, held) = all_hold s n key value calls image w b p in (
       last,
       held,
       get_finds last key value buffer held l,
-      rw (probes-length key n w.fits.shape.n_least) at (read_most unseen key Need.Nothing s (image_after_all s n calls image) (probes key n)),
+      rw (probes-length key n w.fits.shape.n_least) at (read_most unseen key None s (image_after_all s n calls image) (probes key n)),
     )
 
 -- R11.8: a record that append has written is bound, so it is found after any list of calls.
@@ -180,7 +180,7 @@ pub stored_is_found : {s n : ℕ} {image : List ℕ} → WellFormed s n image �
     → (buffer : List ℕ) → length value ≤ length buffer
     → let later = image_after_all s n calls (append_of image s n key value).image in
     (get_of later s n key buffer ≡ record { answer = Complete (length value); buffer = value ++ drop (length value) buffer })
-    × (length (regions_read key Need.Nothing s later (probes key n)) ≤ n)
+    × (length (regions_read key None s later (probes key n)) ≤ n)
 stored_is_found {s} {n} {image} w key value k v h calls p buffer l =
     let w' = call_keeps w (Call.append key value) (Typed.typed_append k v) in
     let b = (append_adds w key value k v h key value).1 (inl (refl, refl)) in
@@ -195,7 +195,7 @@ pub initialised_is_found : (image : List ℕ) (s n key : ℕ) → key < 2 ^ 64 �
     WellFormed s n later
     × Bound s n later key []
     × (get_of later s n key buffer ≡ record { answer = Complete 0; buffer = buffer })
-    × (length (regions_read key Need.Nothing s later (probes key n)) ≤ n)
+    × (length (regions_read key None s later (probes key n)) ≤ n)
 initialised_is_found image s n key k h calls p buffer =
     let (w, bound) = initialise_made image s n key k h in
     bound_is_found w key [] ((bound key []).1 (refl, refl)) calls p buffer (omega arith)

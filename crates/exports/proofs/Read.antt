@@ -18,7 +18,6 @@ use Rattle.plans.specs.declared.Aim.{Aim}
 use Rattle.plans.specs.declared.Lent.{Lent}
 use Rattle.plans.specs.declared.Edit.{Edit}
 use Rattle.plans.specs.declared.Edits.{Edits}
-use Rattle.plans.specs.declared.First.{First}
 use Rattle.plans.specs.declared.Then.{Then}
 use Rattle.plans.specs.Writes.{value_lent, first}
 use Rattle.running.specs.declared.Op.{Op}
@@ -206,12 +205,12 @@ no_answer s len (Edit.Lay r o) h = let z : ◌≡◌ {A = ℕ} 0 1 = cc in omega
 no_answer s len (Edit.Kill how r x) h = let z : ◌≡◌ {A = ℕ} 0 1 = cc in omega arith
 no_answer s len (Edit.Erase r) h = let z : ◌≡◌ {A = ℕ} 0 1 = cc in omega arith
 
-left_over : {o : COperation} {t : Then} {answer : Answer} (s len key n : ℕ) (es : Edits) (f : First) → first es ≡ f → Follows o t
+left_over : {o : COperation} {t : Then} {answer : Answer} (s len key n : ℕ) (es : Edits) (f : Option Edit) → first es ≡ f → Follows o t
     → request_for s len (wait_first key n f t) ≡ Request.Answers answer → over_after es t ≡ true
-left_over s len key n es (First.Do e) q w h = absurd (no_answer s len e h)
-left_over s len key n es First.Nothing q ends h = rw q
-left_over s len key n es First.Nothing q (seeks _) h = let z : ◌≡◌ {A = ℕ} 0 1 = cc in absurd (omega arith)
-left_over s len key n es First.Nothing q sweeps h = let z : ◌≡◌ {A = ℕ} 0 1 = cc in absurd (omega arith)
+left_over s len key n es (Some e) q w h = absurd (no_answer s len e h)
+left_over s len key n es None q ends h = rw q
+left_over s len key n es None q (seeks _) h = let z : ◌≡◌ {A = ℕ} 0 1 = cc in absurd (omega arith)
+left_over s len key n es None q sweeps h = let z : ◌≡◌ {A = ℕ} 0 1 = cc in absurd (omega arith)
 
 pub packed_over : (op : Op) → over op.plan ≡ true → (packed op).next ≡ 6
 unfolding packed

@@ -6,7 +6,7 @@ ghost use Rattle.plans.specs.Writes.{value_lent, value_of, laid_in};
 ghost use Rattle.plans.specs.Fits.{edit_fits};
 ghost use Rattle.laying.specs.Lend.{laid, laid_on};
 
-use plans::{Edit, First, Lent};
+use plans::{Edit, Lent};
 use running::{Reply, RuledOp};
 
 // The record of an append at its own place in the region: of the lent value, or of none where none is lent.
@@ -53,8 +53,7 @@ fn lay(ruled: RuledOp, region: &mut [u8], value: &[u8])
     if op.fresh {
         return;
     }
-    let first = plans::first_of(edits);
-    let First::Do(edit) = first else {
+    let Some(edit) = plans::first_of(edits) else {
         return;
     };
     lay_edit(op.key, lent, edit, op.n, region, value);

@@ -6,15 +6,14 @@ use mathlib.Core.Path.{◌≡◌, refl, sym, ◌∙◌, ap}
 use mathlib.Core.Bool.{Bool}
 use mathlib.Core.List.{List}
 use lib.ListN.{length, take, drop}
-use Rattle.std.specs.Prelude.{Result, Ok, Err}
+use Rattle.lookup.specs.Gather.{some_room}
+use Rattle.std.specs.Prelude.{Result, Ok, Err, Some, None}
 use Rattle.chip.specs.Geometry.{Fits, region_of}
 use Rattle.chip.specs.Chip.{is_blank}
 use Rattle.chip.proofs.Image.{place_small, region_inside, region-length}
 use Rattle.probe.specs.Probe.{probes}
 use Rattle.probe.proofs.Theorems.{members}
 use Rattle.format.specs.declared.Record.{Record}
-use Rattle.lookup.specs.declared.Need.{Need}
-use Rattle.lookup.specs.declared.Room.{Room}
 use Rattle.lookup.specs.declared.Seen.{Seen}
 use Rattle.lookup.specs.declared.Looked.{Looked}
 use Rattle.lookup.specs.declared.Hit.{Hit}
@@ -38,14 +37,14 @@ pub held : (image : List ℕ) (s n key r : ℕ) (x : Record) → hit_of image s 
 unfolding hit_of
 held image s n key r x h = check (first_refusal image s n key 0) refl h
   where
-    look : Fits image s n → (l : Looked) → lookup_in key Need.Nothing s image (probes key n) ≡ l → hit_by l ≡ hits r x → Held image s n key r x
-    look f (Looked.Live q y) e h = held_of f (found key Need.Nothing r x f (e ∙ (let same : ◌≡◌ {A = Hit} (record { region = q; rec = y }) (record { region = r; rec = x }) = cc in ap (λ (t : Hit). Looked.Live t.region t.rec) same)))
+    look : Fits image s n → (l : Looked) → lookup_in key None s image (probes key n) ≡ l → hit_by l ≡ hits r x → Held image s n key r x
+    look f (Looked.Live q y) e h = held_of f (found key None r x f (e ∙ (let same : ◌≡◌ {A = Hit} (record { region = q; rec = y }) (record { region = r; rec = x }) = cc in ap (λ (t : Hit). Looked.Live t.region t.rec) same)))
     look f (Looked.Bad g p) e h = absurd (let z : ◌≡◌ {A = ℕ} 0 1 = cc in omega arith)
     look f (Looked.Through seen) e h = absurd (let z : ◌≡◌ {A = ℕ} 0 1 = cc in omega arith)
 
     check : (c : Result (Unit {0}) Refusal) → first_refusal image s n key 0 ≡ c → hit_after image s n key c ≡ hits r x → Held image s n key r x
     check (Err w) e h = absurd (let z : ◌≡◌ {A = ℕ} 0 1 = cc in omega arith)
-    check (Ok u) e h = look (fine image s n key 0 e).0 (lookup_in key Need.Nothing s image (probes key n)) refl h
+    check (Ok u) e h = look (fine image s n key 0 e).0 (lookup_in key None s image (probes key n)) refl h
 
 -- Append's place lies in the image.
 pub record Placed (image : List ℕ) (s n len r o : ℕ) : Type 0 where
@@ -57,7 +56,7 @@ pub record Placed (image : List ℕ) (s n len r o : ℕ) : Type 0 where
   pub enough : o + len ≤ s
 
 pub placed_at : (image : List ℕ) (s n key len r o : ℕ) (blank : Bool) (seen : Seen) → Fits image s n
-    → lookup_in key (Need.Room len) s image (probes key n) ≡ Looked.Through seen → seen.room ≡ Room.At r o blank
+    → lookup_in key (Some len) s image (probes key n) ≡ Looked.Through seen → seen.room ≡ some_room r o blank
     → Placed image s n len r o × (blank ≡ is_blank (take len (drop o (region_of s image r))))
 placed_at image s n key len r o blank seen f h e =
     let (m, y) = room_from len s image (probes key n) r o blank (sym (gathered_first key len s image (probes key n) h) ∙ e) in

@@ -8,7 +8,7 @@ use mathlib.Core.List.{List, [], ◌∷◌, Memᴰ}
 use lib.Dec.{ltb, leb}
 use lib.ListN.{length, take, drop}
 use borrow.Author.Tests.{le-leb, lt-leb, leb-true, ltb-false}
-use Rattle.std.specs.Prelude.{Ok, Err}
+use Rattle.std.specs.Prelude.{Ok, Err, Option, Some, None}
 use Rattle.chip.specs.Chip.{is_blank}
 use Rattle.chip.specs.Geometry.{Fits, geometry, region_of}
 use Rattle.chip.proofs.Image.{geometry_fits, region-length}
@@ -23,17 +23,16 @@ use Rattle.region.specs.Walk.{ending, event_of, event_in}
 use Rattle.region.proofs.Steps.{place_of}
 use Rattle.region.proofs.Theorems.{stop_decides, stop_within, live_decides, records_within, records_short}
 use Rattle.refusals.specs.declared.Refusal.{Refusal}
-use Rattle.lookup.specs.declared.Need.{Need}
 use Rattle.lookup.specs.declared.Room.{Room}
 use Rattle.lookup.specs.declared.Seen.{Seen}
 use Rattle.lookup.specs.declared.Looked.{Looked}
 use Rattle.refusals.specs.Refusals.{first_refusal}
-use Rattle.lookup.specs.Gather.{with_room, or_room, room_at, noted}
+use Rattle.lookup.specs.Gather.{with_room, or_room, room_at, noted, some_room}
 use Rattle.lookup.specs.Turns.{turn, close, on_turn, look_from, lookup_in}
 use Rattle.lookup.specs.Words.{room_on, first_room}
 
 -- A lookup of a key as its turns: over the regions of a list, with so much gathered before them, it ends like this.
-pub data Looks (key : ℕ) (need : Need) (s : ℕ) (image : List ℕ) : Seen → List ℕ → Looked → Type 0 where
+pub data Looks (key : ℕ) (need : Option ℕ) (s : ℕ) (image : List ℕ) : Seen → List ℕ → Looked → Type 0 where
   over : {seen : Seen} → Looks key need s image seen [] (close seen)
   live : {seen : Seen} {r : ℕ} {rs : List ℕ} {x : Record} → event_in (region_of s image r) (Want.Key key) ≡ Event.Live x → Looks key need s image seen (r ∷ rs) (Looked.Live r x)
   bad : {seen : Seen} {r : ℕ} {rs : List ℕ} {f : Fault} {o : ℕ} → event_in (region_of s image r) (Want.Key key) ≡ Event.Bad f o
@@ -41,7 +40,7 @@ pub data Looks (key : ℕ) (need : Need) (s : ℕ) (image : List ℕ) : Seen →
   more : {seen : Seen} {r : ℕ} {rs : List ℕ} {o : ℕ} {looked : Looked} → event_in (region_of s image r) (Want.Key key) ≡ Event.End o
       → Looks key need s image (noted seen need r (region_of s image r) o) rs looked → Looks key need s image seen (r ∷ rs) looked
 
-module _ (key : ℕ) (need : Need) (s : ℕ) (image : List ℕ) where
+module _ (key : ℕ) (need : Option ℕ) (s : ℕ) (image : List ℕ) where
   pub looks : (seen : Seen) (rs : List ℕ) → Looks key need s image seen rs (look_from seen key need s image rs)
   unfolding look_from
   looks seen [] = Looks.over
@@ -91,7 +90,7 @@ pub record Found (image : List ℕ) (s n key r : ℕ) (x : Record) : Type 0 wher
   pub short : x.len ≤ 4095
   pub fits : x.at + x.len ≤ s
 
-pub found : {image : List ℕ} {s n : ℕ} (key : ℕ) (need : Need) (r : ℕ) (x : Record) → Fits image s n → lookup_in key need s image (probes key n) ≡ Looked.Live r x → Found image s n key r x
+pub found : {image : List ℕ} {s n : ℕ} (key : ℕ) (need : Option ℕ) (r : ℕ) (x : Record) → Fits image s n → lookup_in key need s image (probes key n) ≡ Looked.Live r x → Found image s n key r x
 found {image} {s} {n} key need r x f h =
     let (m, e) = live_from key need s image (looks_so key need s image h) in
     let number : r < n = (members key n r f.shape.n_least).1 m in
@@ -101,26 +100,45 @@ found {image} {s} {n} key need r x f h =
 -- What is gathered.
 
 -- what a region that does not decide adds
-pub noted_kept : (seen : Seen) (need : Need) (r : ℕ) (region : List ℕ) (o len : ℕ) {q p : ℕ} {b : Bool} → need ≡ Need.Room len → seen.room ≡ Room.At q p b → seen ≡ noted seen need r region o
+pub noted_kept : (seen : Seen) (need : Option ℕ) (r : ℕ) (region : List ℕ) (o len : ℕ) {room : Room} → need ≡ Some len → seen.room ≡ Some room → seen ≡ noted seen need r region o
 noted_kept seen need r region o len e h = rw (e, h)
 
-pub noted_full : (seen : Seen) (need : Need) (r : ℕ) (region : List ℕ) (o len : ℕ) → need ≡ Need.Room len → seen.room ≡ Room.Nowhere → length region < o + len → seen ≡ noted seen need r region o
+pub noted_full : (seen : Seen) (need : Option ℕ) (r : ℕ) (region : List ℕ) (o len : ℕ) → need ≡ Some len → seen.room ≡ None → length region < o + len → seen ≡ noted seen need r region o
 noted_full seen need r region o len e h l = rw (e, h, lt-leb (o + len) (length region) l)
 
-pub noted_new : (seen : Seen) (need : Need) (r : ℕ) (region : List ℕ) (o len : ℕ) → need ≡ Need.Room len → seen.room ≡ Room.Nowhere → o + len ≤ length region
-    → with_room (Room.At r o (is_blank (take len (drop o region)))) seen ≡ noted seen need r region o
+pub noted_new : (seen : Seen) (need : Option ℕ) (r : ℕ) (region : List ℕ) (o len : ℕ) → need ≡ Some len → seen.room ≡ None → o + len ≤ length region
+    → with_room (some_room r o (is_blank (take len (drop o region)))) seen ≡ noted seen need r region o
 noted_new seen need r region o len e h l = rw (e, h, le-leb (o + len) (length region) l)
 
-or_assoc : (a b c : Room) → or_room (or_room a b) c ≡ or_room a (or_room b c)
-or_assoc Room.Nowhere b c = refl
-or_assoc (Room.At r o t) b c = refl
+abbrev room_or : Option Room → Room → Room
+room_or None room = room
+room_or (Some room) other = room
 
-or_nowhere : (a : Room) → or_room a Room.Nowhere ≡ a
-or_nowhere Room.Nowhere = refl
-or_nowhere (Room.At r o t) = refl
+-- where the same room is said twice
+pub same_room : {r o q p : ℕ} {t b : Bool} → some_room r o t ≡ some_room q p b → (r ≡ q) × (o ≡ p) × (t ≡ b)
+same_room {r} {o} {q} {p} {t} {b} h =
+    let given : Option Room → Room = λ room. room_or room (record { region = r; at = o; blank = t }) in
+    (ap (λ (room : Option Room). (given room).region) h, ap (λ (room : Option Room). (given room).at) h, ap (λ (room : Option Room). (given room).blank) h)
+
+-- what holds of none, of every room that is not blank and of every one that is, holds of any
+pub room_cases : (P : Option Room → Type 0) → P None → ((r o : ℕ) → P (some_room r o false)) → ((r o : ℕ) → P (some_room r o true)) → (room : Option Room) → P room
+room_cases P none unblank blank None = none
+room_cases P none unblank blank (Some room) = go room.region room.at room.blank
+  where
+    go : (r o : ℕ) (t : Bool) → P (some_room r o t)
+    go r o false = unblank r o
+    go r o true = blank r o
+
+or_assoc : (a b c : Option Room) → or_room (or_room a b) c ≡ or_room a (or_room b c)
+or_assoc None b c = refl
+or_assoc (Some room) b c = refl
+
+or_nowhere : (a : Option Room) → or_room a None ≡ a
+or_nowhere None = refl
+or_nowhere (Some room) = refl
 
 -- A lookup for room that goes through all regions has gathered the first region with room.
-pub gathers : (key len s : ℕ) (image : List ℕ) {seen got : Seen} {rs : List ℕ} → Looks key (Need.Room len) s image seen rs (Looked.Through got)
+pub gathers : (key len s : ℕ) (image : List ℕ) {seen got : Seen} {rs : List ℕ} → Looks key (Some len) s image seen rs (Looked.Through got)
     → got.room ≡ or_room seen.room (first_room len s image rs)
 unfolding first_room
 gathers key len s image {seen} Looks.over = sym (or_nowhere seen.room)
@@ -129,8 +147,8 @@ gathers key len s image {seen} (Looks.more {r = r} {rs = rs} {o = o} e rest) =
     gathers key len s image rest ∙ or_assoc seen.room (room_at len r o (region_of s image r)) (first_room len s image rs)
     ∙ ap (λ (t : Stop). or_room seen.room (or_room (room_on len r (region_of s image r) t) (first_room len s image rs))) (sym stop)
 
-pub gathered_first : (key len s : ℕ) (image rs : List ℕ) {got : Seen} → lookup_in key (Need.Room len) s image rs ≡ Looked.Through got → got.room ≡ first_room len s image rs
-gathered_first key len s image rs h = gathers key len s image (looks_so key (Need.Room len) s image h)
+pub gathered_first : (key len s : ℕ) (image rs : List ℕ) {got : Seen} → lookup_in key (Some len) s image rs ≡ Looked.Through got → got.room ≡ first_room len s image rs
+gathered_first key len s image rs h = gathers key len s image (looks_so key (Some len) s image h)
 
 -- Where there is room: the region is one of the list, and its records end at the place.
 pub record Roomy (image : List ℕ) (s len r o : ℕ) (blank : Bool) : Type 0 where
@@ -138,29 +156,27 @@ pub record Roomy (image : List ℕ) (s len r o : ℕ) (blank : Bool) : Type 0 wh
   pub enough : o + len ≤ length (region_of s image r)
   pub blankness : blank ≡ is_blank (take len (drop o (region_of s image r)))
 
-pub room_from : (len s : ℕ) (image rs : List ℕ) (r o : ℕ) (blank : Bool) → first_room len s image rs ≡ Room.At r o blank
+pub room_from : (len s : ℕ) (image rs : List ℕ) (r o : ℕ) (blank : Bool) → first_room len s image rs ≡ some_room r o blank
     → Memᴰ r rs × Roomy image s len r o blank
 unfolding first_room
 room_from len s image [] r o blank h = absurd (let z : ◌≡◌ {A = ℕ} 0 1 = cc in omega arith)
 room_from len s image (q ∷ rs) r o blank h = go (room_from len s image rs r o blank) (ending (region_of s image q)) refl h
   where
-    later : (first_room len s image rs ≡ Room.At r o blank → Memᴰ r rs × Roomy image s len r o blank) → first_room len s image rs ≡ Room.At r o blank
+    later : (first_room len s image rs ≡ some_room r o blank → Memᴰ r rs × Roomy image s len r o blank) → first_room len s image rs ≡ some_room r o blank
         → Memᴰ r (q ∷ rs) × Roomy image s len r o blank
     later ih h = let (m, e) = ih h in (Memᴰ.tail m, e)
 
     here : (p : ℕ) → ending (region_of s image q) ≡ Stop.End p → (b : Bool) → leb (p + len) (length (region_of s image q)) ≡ b
-        → (first_room len s image rs ≡ Room.At r o blank → Memᴰ r rs × Roomy image s len r o blank)
-        → or_room (cond b (Room.At q p (is_blank (take len (drop p (region_of s image q))))) Room.Nowhere) (first_room len s image rs) ≡ Room.At r o blank
+        → (first_room len s image rs ≡ some_room r o blank → Memᴰ r rs × Roomy image s len r o blank)
+        → or_room (cond b (some_room q p (is_blank (take len (drop p (region_of s image q))))) None) (first_room len s image rs) ≡ some_room r o blank
         → Memᴰ r (q ∷ rs) × Roomy image s len r o blank
     here p e true t ih h =
-        let same : r ≡ q = cc in
-        let place : o ≡ p = cc in
-        let bit : blank ≡ is_blank (take len (drop p (region_of s image q))) = cc in
+        let (same, place, bit) = same_room (sym h) in
         (Memᴰ.head same, rw (same, place) (record { ends = e; enough = leb-true _ _ t; blankness = bit }))
     here p e false t ih h = later ih h
 
-    go : (first_room len s image rs ≡ Room.At r o blank → Memᴰ r rs × Roomy image s len r o blank)
-        → (e : Stop) → ending (region_of s image q) ≡ e → or_room (room_on len q (region_of s image q) e) (first_room len s image rs) ≡ Room.At r o blank
+    go : (first_room len s image rs ≡ some_room r o blank → Memᴰ r rs × Roomy image s len r o blank)
+        → (e : Stop) → ending (region_of s image q) ≡ e → or_room (room_on len q (region_of s image q) e) (first_room len s image rs) ≡ some_room r o blank
         → Memᴰ r (q ∷ rs) × Roomy image s len r o blank
     go ih (Stop.End p) e h = here p e (leb (p + len) (length (region_of s image q))) refl ih h
     go ih (Stop.Bad f p) e h = later ih h

@@ -2,18 +2,17 @@
 ghost use Rattle.std.specs.Prelude.{◌≡◌, ◌≤◌, length};
 ghost use Rattle.lookup.specs.Gather.{noted};
 
-use crate::{Need, Room, Seen};
+use crate::{Room, Seen};
 
-// From a region that did not decide, whose records end at `at`: the first one with room counts.
-pub fn note(seen: Seen, need: Need, r: usize, region: &[u8], at: usize) -> Seen
+// From a region that did not decide, whose records end at `at`: the first one with room counts, where a record of so many bytes needs any.
+pub fn note(seen: Seen, need: Option<usize>, r: usize, region: &[u8], at: usize) -> Seen
     requires { at ≤ length region.now }
     ensures { result ≡ noted seen need r region.now at }
 {
-    let room = seen.room;
-    let Need::Room(len) = need else {
+    let Some(len) = need else {
         return seen;
     };
-    let Room::Nowhere = room else {
+    let None = seen.room else {
         return seen;
     };
     if region.len() - at < len {
@@ -21,9 +20,9 @@ pub fn note(seen: Seen, need: Need, r: usize, region: &[u8], at: usize) -> Seen
     }
     let end = at + len;
     let blank = chip::is_blank(&region[at..end]);
-    seen.with_room(Room::At {
+    seen.with_room(Some(Room {
         region: r,
         at,
         blank,
-    })
+    }))
 }

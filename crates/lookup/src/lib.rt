@@ -13,40 +13,28 @@ use format::{Fault, Record};
 use refusals::Refusal;
 pub use turns::{find_key, look_up, take_turn};
 
-// R5.4: what a lookup gathers on its way: append needs room for a record of so many bytes, nothing else needs any.
+// R5.4: a region with room, the place there, and whether the record's place is blank.
 #[derive(Clone, Copy)]
-pub enum Need {
-    Nothing,
-    Room(usize),
+pub struct Room {
+    pub region: usize,
+    pub at: usize,
+    pub blank: bool,
 }
 
-// R5.4: the first region with room, the place there, and whether the record's place is blank.
-#[derive(Clone, Copy)]
-pub enum Room {
-    Nowhere,
-    At {
-        region: usize,
-        at: usize,
-        blank: bool,
-    },
-}
-
-// R5.4: what a lookup has gathered from the regions seen so far.
+// R5.4: what a lookup has gathered from the regions seen so far: the first room, if any is needed and there is one.
 #[derive(Clone, Copy)]
 pub struct Seen {
-    pub room: Room,
+    pub room: Option<Room>,
 }
 
 impl Seen {
     pub fn new() -> Seen
         ensures { result ≡ unseen }
     {
-        Seen {
-            room: Room::Nowhere,
-        }
+        Seen { room: None }
     }
 
-    pub fn with_room(self, room: Room) -> Seen
+    pub fn with_room(self, room: Option<Room>) -> Seen
         ensures { result ≡ with_room room self }
     {
         Seen { room }
@@ -96,11 +84,4 @@ impl Looked {
 pub struct Hit {
     pub region: usize,
     pub rec: Record,
-}
-
-// R5.1: one more region seen: the lookup goes on with what it has gathered, or it ends.
-#[derive(Clone, Copy)]
-pub enum Turn {
-    More(Seen),
-    Stop(Looked),
 }

@@ -4,16 +4,17 @@ use Prim.Native.Nat.{ℕ}
 use mathlib.Core.Path.{◌≡◌, refl, sym, ap, ◌∙◌}
 use mathlib.Core.Bool.{Bool, true, false, cond, true≢false}
 use lib.Dec.{eqb, ltb}
+use Rattle.std.specs.Prelude.{Option, Some, None}
+use Rattle.lookup.proofs.Scan.{room_cases}
 use Rattle.format.specs.declared.Removal.{Removal}
 use Rattle.lookup.specs.declared.Room.{Room}
 use Rattle.lookup.specs.declared.Seen.{Seen}
-use Rattle.lookup.specs.Gather.{with_room}
+use Rattle.lookup.specs.Gather.{with_room, some_room}
 use Rattle.plans.specs.declared.Answer.TheVariants.{Complete, Written, Freed}
 use Rattle.plans.specs.declared.Aim.{Aim}
 use Rattle.plans.specs.declared.Lent.{Lent}
 use Rattle.plans.specs.declared.Edit.{Edit}
 use Rattle.plans.specs.declared.Edits.{Edits}
-use Rattle.plans.specs.declared.First.{First}
 use Rattle.plans.specs.declared.Then.{Then}
 use Rattle.plans.specs.Writes.{first}
 use Rattle.running.specs.declared.Op.{Op}
@@ -64,10 +65,13 @@ seek_back op slot aim i seen = go seen.room
     own : own_aim (aim_number aim) ≡ true
     own = (aim_back aim).1
 
-    go : (gathered : Room) → Back op slot (Then.Seek aim i (with_room gathered seen))
-    go Room.Nowhere = ((λ k. Then.Seek ((aim_back aim).0 k) i (with_room Room.Nowhere seen)), rw own)
-    go (Room.At r o false) = ((λ k. Then.Seek ((aim_back aim).0 k) i (with_room (Room.At r o false) seen)), rw own)
-    go (Room.At r o true) = ((λ k. Then.Seek ((aim_back aim).0 k) i (with_room (Room.At r o true) seen)), rw own)
+    go : (gathered : Option Room) → Back op slot (Then.Seek aim i (with_room gathered seen))
+    go =
+        room_cases
+        (λ gathered. Back op slot (Then.Seek aim i (with_room gathered seen)))
+        ((λ k. Then.Seek ((aim_back aim).0 k) i (with_room None seen)), rw own)
+        (λ r o. ((λ k. Then.Seek ((aim_back aim).0 k) i (with_room (some_room r o false) seen)), rw own))
+        (λ r o. ((λ k. Then.Seek ((aim_back aim).0 k) i (with_room (some_room r o true) seen)), rw own))
 
 -- an edit that is left
 left_back : (op : Op) (next : Next) (es : Edits) → few es ≡ true → is_nothing (first es) ≡ false → left_in (in_numbers op (slot_of es) next) ≡ true
@@ -80,7 +84,7 @@ left_back op next (Edits.Two e f) h l = absurd (true≢false (sym h))
 left_back op next (Edits.Three e f g) h l = absurd (true≢false (sym h))
 left_back op next (Edits.Erases i m) h l = go (ltb i m) l
   where
-    go : (b : Bool) → is_nothing (cond b (First.Do (Edit.Erase i)) First.Nothing) ≡ false → b ≡ true
+    go : (b : Bool) → is_nothing (cond b (Some (Edit.Erase i)) None) ≡ false → b ≡ true
     go true z = refl
     go false z = absurd (true≢false z)
 

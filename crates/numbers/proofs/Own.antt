@@ -5,10 +5,10 @@ use mathlib.Core.Path.{◌≡◌, refl, sym, ap, ◌∙◌}
 use mathlib.Core.Bool.{Bool, true, false, cond, ◌&&◌, true≢false}
 use lib.Dec.{eqb, ltb}
 use borrow.Author.Tests.{eqb-true, ne_eqb}
+use Rattle.std.specs.Prelude.{None}
 use Rattle.chip.proofs.Image.{both}
 use Rattle.format.specs.declared.Removal.{Removal}
-use Rattle.lookup.specs.declared.Room.{Room}
-use Rattle.lookup.specs.Gather.{unseen, with_room}
+use Rattle.lookup.specs.Gather.{unseen, with_room, some_room}
 use Rattle.plans.specs.declared.Answer.TheVariants.{Complete, Written, Freed}
 use Rattle.plans.specs.declared.Aim.{Aim}
 use Rattle.plans.specs.declared.Lent.{Lent}
@@ -135,7 +135,7 @@ is_seek o e f z = go (eqb o.tag 0) (eqb o.tag 2) refl refl z
     aim = own_aim_lem o.aim f
 
     go : (p q : Bool) → eqb o.tag 0 ≡ p → eqb o.tag 2 ≡ q → cond p (eqb o.b 0 && eqb o.c 0) (cond q true (eqb o.tag 1)) ≡ true
-        → numbers_in o ≡ seek_numbers (aim_in o.aim) o.a (cond p Room.Nowhere (Room.At o.b o.c q))
+        → numbers_in o ≡ seek_numbers (aim_in o.aim) o.a (cond p None (some_room o.b o.c q))
     go true q l m z =
         let tag : o.tag ≡ 0 = eqb-true o.tag 0 l in
         let (b, y) = field o.b 0 _ z in

@@ -4,13 +4,14 @@ use Prim.Native.Nat.{ℕ}
 use mathlib.Core.Path.{◌≡◌, refl, sym, ap, ◌∙◌}
 use mathlib.Core.Bool.{Bool, true, false, cond, ◌&&◌, true≢false}
 use lib.Dec.{eqb}
+use Rattle.plans.specs.declared.Edit.{Edit}
+use Rattle.std.specs.Prelude.{Option, Some, None}
 use Rattle.chip.specs.Geometry.{sized}
 use Rattle.probe.specs.Probe.{allowed_key}
 use Rattle.refusals.specs.declared.Refusal.{Refusal}
 use Rattle.refusals.specs.Refusals.{number}
 use Rattle.plans.specs.declared.Answer.{Answer}
 use Rattle.plans.specs.declared.Answer.TheVariants.{Complete, Written, Freed, Refused}
-use Rattle.plans.specs.declared.First.{First}
 use Rattle.plans.specs.declared.Then.{Then}
 use Rattle.plans.specs.Writes.{value_lent, first}
 use Rattle.plans.specs.Fits.{value_short, edits_fit, then_fits, answer_rests, rests}
@@ -87,19 +88,19 @@ number_some Refusal.BadCall = refl
 number_some Refusal.FlashFailed = refl
 
 -- a refusal after an edit
-refusal_late : (f : First) (w : Refusal) → is_nothing f ≡ false → answer_rests f (Refused w) ≡ false
-refusal_late (First.Do e) w l = number_some w
-refusal_late First.Nothing w l = absurd (true≢false l)
+refusal_late : (f : Option Edit) (w : Refusal) → is_nothing f ≡ false → answer_rests f (Refused w) ≡ false
+refusal_late (Some e) w l = number_some w
+refusal_late None w l = absurd (true≢false l)
 
-nothing_left : (f : First) → is_nothing f ≡ true → f ≡ First.Nothing
-nothing_left First.Nothing l = refl
-nothing_left (First.Do e) l = absurd (true≢false (sym l))
+nothing_left : (f : Option Edit) → is_nothing f ≡ true → f ≡ None
+nothing_left None l = refl
+nothing_left (Some e) l = absurd (true≢false (sym l))
 
 abbrev before : Op → Then → Op
 before op next = record { s = op.s; n = op.n; key = op.key; lent = op.lent; fresh = op.fresh; plan = record { edits = op.plan.edits; next = next } }
 
 -- no call fits where only the answer is left: a fresh operation that it is breaks the rule, and another waits for no reply
-no_more : (op : Op) (answer : Answer) → first op.plan.edits ≡ First.Nothing → NoCall (before op (Then.Ends answer))
+no_more : (op : Op) (answer : Answer) → first op.plan.edits ≡ None → NoCall (before op (Then.Ends answer))
 no_more op answer gone = go op.fresh refl
   where
     at : Op

@@ -1,5 +1,5 @@
 -- A running operation in numbers. What a kind does not use is 0.
-use Rattle.std.specs.Prelude.{ℕ, ◌≡◌, Bool, true, false, cond, Result, Ok, Err}
+use Rattle.std.specs.Prelude.{ℕ, ◌≡◌, Bool, true, false, cond, Result, Ok, Err, Option, Some, None}
 use Rattle.format.specs.declared.Removal.{Removal}
 use Rattle.lookup.specs.declared.Room.{Room}
 use Rattle.refusals.specs.Refusals.{number}
@@ -9,7 +9,6 @@ use Rattle.plans.specs.declared.Aim.{Aim}
 use Rattle.plans.specs.declared.Lent.{Lent}
 use Rattle.plans.specs.declared.Edit.{Edit}
 use Rattle.plans.specs.declared.Edits.{Edits}
-use Rattle.plans.specs.declared.First.{First}
 use Rattle.plans.specs.declared.Then.{Then}
 use Rattle.plans.specs.declared.Plan.{Plan}
 use Rattle.plans.specs.Writes.{first}
@@ -84,9 +83,9 @@ aim_number (Aim.Remove Removal.Zeroise) = 4
 aim_number Aim.Initialise = 5
 
 -- R12.4: a lookup's aim, its index in the probe order, and the room that it has gathered: 0 none, 1 room that is not blank, 2 blank room.
-abbrev pub seek_numbers : Aim → ℕ → Room → Next
-seek_numbers aim i Room.Nowhere = record { next = 1; aim = aim_number aim; tag = 0; a = i; b = 0; c = 0 }
-seek_numbers aim i (Room.At r o blank) = record { next = 1; aim = aim_number aim; tag = cond blank 2 1; a = i; b = r; c = o }
+abbrev pub seek_numbers : Aim → ℕ → Option Room → Next
+seek_numbers aim i None = record { next = 1; aim = aim_number aim; tag = 0; a = i; b = 0; c = 0 }
+seek_numbers aim i (Some room) = record { next = 1; aim = aim_number aim; tag = cond room.blank 2 1; a = i; b = room.region; c = room.at }
 
 -- R12.4: an answer that is next, and what it carries. A refusal behind a write or an erase breaks the written rule (R8.10): `next` is 0, as in
 -- numbers that stand for no operation.
@@ -105,9 +104,9 @@ next_numbers (Then.Sweep r k) = next_at 2 r k
 next_numbers (Then.Gives r x anew) = next_at 0 0 0
 
 -- R12.7: nothing is left to write or erase.
-abbrev pub is_nothing : First → Bool
-is_nothing First.Nothing = true
-is_nothing (First.Do e) = false
+abbrev pub is_nothing : Option Edit → Bool
+is_nothing None = true
+is_nothing (Some e) = false
 
 -- R12.7: an end: nothing is left but an answer.
 abbrev pub over_after : Edits → Then → Bool

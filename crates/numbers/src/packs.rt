@@ -112,13 +112,7 @@ fn slot_of(edits: Edits) -> Slot
 fn is_few(edits: Edits) -> bool
     ensures { result ≡ few edits }
 {
-    match edits {
-        Edits::Nil => true,
-        Edits::One(_) => true,
-        Edits::Two(_, _) => false,
-        Edits::Three(_, _, _) => false,
-        Edits::Erases { from: _, to: _ } => true,
-    }
+    !matches!(edits, Edits::Two(_, _) | Edits::Three(_, _, _))
 }
 
 fn aim_number(aim: Aim) -> u32
@@ -148,12 +142,12 @@ fn next_at(next: u32, a: usize, b: usize) -> Next
     }
 }
 
-fn seek_numbers(aim: Aim, i: usize, gathered: Room) -> Next
+fn seek_numbers(aim: Aim, i: usize, gathered: Option<Room>) -> Next
     ensures { result ≡ seek_numbers aim i gathered }
 {
     let number = aim_number(aim);
     match gathered {
-        Room::Nowhere => Next {
+        None => Next {
             next: COperation::NEXT_SEEK,
             aim: number,
             tag: 0,
@@ -161,7 +155,7 @@ fn seek_numbers(aim: Aim, i: usize, gathered: Room) -> Next
             b: 0,
             c: 0,
         },
-        Room::At { region, at, blank } => Next {
+        Some(Room { region, at, blank }) => Next {
             next: COperation::NEXT_SEEK,
             aim: number,
             tag: if blank { 2 } else { 1 },
@@ -190,10 +184,7 @@ fn next_numbers(next: Then) -> Next
 {
     match next {
         Then::Ends(answer) => end_numbers(answer),
-        Then::Seek { aim, i, seen } => {
-            let gathered = seen.room;
-            seek_numbers(aim, i, gathered)
-        }
+        Then::Seek { aim, i, seen } => seek_numbers(aim, i, seen.room),
         Then::Sweep { region, erased } => next_at(COperation::NEXT_SWEEP, region, erased),
         Then::Gives {
             region: _,
@@ -203,41 +194,11 @@ fn next_numbers(next: Then) -> Next
     }
 }
 
-fn is_done(edits: Edits) -> bool
-    ensures { result ≡ is_nothing (first edits) }
-{
-    match edits {
-        Edits::Nil => true,
-        Edits::One(_) => false,
-        Edits::Two(_, _) => false,
-        Edits::Three(_, _, _) => false,
-        Edits::Erases { from, to } => { if from < to { false } else { true } }
-    }
-}
-
 // Whether nothing is left but the answer.
 fn is_over(plan: Plan) -> bool
     ensures { result ≡ over plan }
 {
-    let edits = plan.edits;
-    let next = plan.next;
-    match next {
-        Then::Ends(_) => is_done(edits),
-        Then::Seek {
-            aim: _,
-            i: _,
-            seen: _,
-        } => false,
-        Then::Sweep {
-            region: _,
-            erased: _,
-        } => false,
-        Then::Gives {
-            region: _,
-            rec: _,
-            anew: _,
-        } => false,
-    }
+    matches!(plan.next, Then::Ends(_)) && plans::first_of(plan.edits).is_none()
 }
 
 fn fresh_number(fresh: bool) -> u32
@@ -275,6 +236,7 @@ fn in_numbers(op: Op, slot: Slot, next: Next) -> COperation
 }
 
 // R12.4, R12.7: a running operation in numbers. One that has ended keeps none of its plan: its answer was given.
+#[tactic(auto, unfolding(crate::specs::Packs::packed))]
 pub fn pack(op: Op) -> COperation
     ensures { result ≡ packed op }
 {
@@ -291,6 +253,7 @@ pub fn pack(op: Op) -> COperation
 }
 
 // What a start hands out, in numbers: fewer tests, and so `pack` has one caller, into which the compiler takes it.
+#[tactic(auto, unfolding(crate::specs::Packs::packed))]
 fn pack_fresh(op: Op) -> COperation
     requires { Looks op }
     ensures { result ≡ packed op }

@@ -3,7 +3,7 @@ use Rattle.std.specs.Prelude.{ℕ, Bool, true, false, cond, ◌&&◌, eqb, ltb, 
 use Rattle.format.specs.declared.Record.{Record}
 use Rattle.format.specs.declared.Removal.{Removal}
 use Rattle.lookup.specs.declared.Room.{Room}
-use Rattle.lookup.specs.Gather.{unseen, with_room}
+use Rattle.lookup.specs.Gather.{unseen, with_room, some_room}
 use Rattle.plans.specs.declared.Answer.TheVariants.{Complete, Written, Freed}
 use Rattle.plans.specs.declared.Aim.{Aim}
 use Rattle.plans.specs.declared.Lent.{Lent}
@@ -44,8 +44,8 @@ aim_in aim =
     Aim.Initialise)))
 
 -- R12.4: `tag`, `b` and `c`: the room that append's lookup has gathered (R5.4), none, not blank or blank.
-abbrev pub gathered_in : ℕ → ℕ → ℕ → Room
-gathered_in tag r o = cond (eqb tag 0) Room.Nowhere (Room.At r o (eqb tag 2))
+abbrev pub gathered_in : ℕ → ℕ → ℕ → Option Room
+gathered_in tag r o = cond (eqb tag 0) None (some_room r o (eqb tag 2))
 
 -- R12.4: `next`: what follows, a lookup, collect's next region, or an answer.
 abbrev pub next_in : COperation → Then

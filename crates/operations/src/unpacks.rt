@@ -85,17 +85,17 @@ fn aim_in(aim: u32) -> Aim
     Aim::Initialise
 }
 
-fn gathered_in(tag: u32, region: usize, at: usize) -> Room
+fn gathered_in(tag: u32, region: usize, at: usize) -> Option<Room>
     ensures { result ≡ gathered_in tag region at }
 {
     if tag == 0 {
-        return Room::Nowhere;
+        return None;
     }
-    Room::At {
+    Some(Room {
         region,
         at,
         blank: tag == 2,
-    }
+    })
 }
 
 fn next_in(o: COperation) -> Then
@@ -126,6 +126,7 @@ fn next_in(o: COperation) -> Then
 }
 
 // R12.4: what the numbers that are used say, each read as the last kind where it is the number of none: `stands` tells whether it is.
+#[tactic(auto, unfolding(crate::specs::Unpacks::read_as))]
 pub fn read_as(o: COperation) -> Op
     ensures { result ≡ read_as o }
 {

@@ -10,7 +10,8 @@ use mathlib.Core.Logic.{◌⊎◌, inl, inr, ⊎_elim}
 use lib.Dec.{ltb}
 use lib.ListN.{length}
 use borrow.Author.Tests.{lt-ltb, le-ltb, ltb-true, ltb-false}
-use Rattle.std.specs.Prelude.{Result, Err}
+use Rattle.lookup.specs.Gather.{some_room}
+use Rattle.std.specs.Prelude.{Result, Err, Option, Some, None}
 use Rattle.chip.specs.Geometry.{region_of}
 use Rattle.probe.specs.Probe.{probes}
 use Rattle.format.specs.declared.Record.{Record}
@@ -20,7 +21,6 @@ use Rattle.format.specs.declared.Fault.TheVariants.{UnsupportedVersion, CorruptD
 use Rattle.format.specs.Layout.{record_length, check_sum_fits}
 use Rattle.region.specs.Walk.{bytes_in, value_length}
 use Rattle.refusals.specs.declared.Refusal.{Refusal}
-use Rattle.lookup.specs.declared.Need.{Need}
 use Rattle.lookup.specs.declared.Room.{Room}
 use Rattle.lookup.specs.declared.Seen.{Seen}
 use Rattle.lookup.specs.declared.Looked.{Looked}
@@ -28,7 +28,7 @@ use Rattle.lookup.specs.declared.Hit.{Hit}
 use Rattle.refusals.specs.Refusals.{number, refusal_of}
 use Rattle.lookup.specs.Turns.{hit_by, hit_of}
 use Rattle.lookup.specs.Words.{first_room}
-use Rattle.lookup.proofs.Scan.{room_from}
+use Rattle.lookup.proofs.Scan.{room_from, room_cases}
 use Rattle.plans.specs.declared.Answer.{Answer}
 use Rattle.plans.specs.declared.Answer.TheVariants.{Complete}
 use Rattle.plans.specs.Answers.{refusal}
@@ -65,7 +65,7 @@ module _ (image : List ℕ) (s n : ℕ) where
   early_refusing {c} {w} e = record { why = w; number_is = refl; done = early_refuses e ∙ ap (refused w) (sym (early_left c e)) }
 
   -- a lookup that ends image s n at no live record of the key
-  by_hit : {c : Call} {key : ℕ} {w : Refusal} → Looks c key Need.Nothing → hit_of image s n key ≡ Err w → outcome c image s n ≡ refused w (left_by c image s n)
+  by_hit : {c : Call} {key : ℕ} {w : Refusal} → Looks c key None → hit_of image s n key ≡ Err w → outcome c image s n ≡ refused w (left_by c image s n)
   unfolding get_of remove_of applied
   by_hit (get_looks {buffer = buffer}) h = ap (λ (hit : Result Hit Refusal). record { answer = (got_by s image buffer hit).answer; image = image }) h
   by_hit (remove_looks {how = how} {key = key}) h = ap (remove_by how s image key) h
@@ -95,7 +95,7 @@ module _ (image : List ℕ) (s n : ℕ) where
   refused_when (When.corrupt_data reads m) = meets_bad CorruptData reads m
   refused_when (When.place_not_blank {key} {value} {r = r} {o = o} {blank = blank} reads e f b) =
       let (_, roomy) = room_from (record_length (length value)) s image (probes key n) r o blank f in
-      record { why = Refusal.CorruptData; number_is = refl; done = append_placed image s n reads e (f ∙ ap (Room.At r o) (roomy.blankness ∙ b)) }
+      record { why = Refusal.CorruptData; number_is = refl; done = append_placed image s n reads e (f ∙ ap (some_room r o) (roomy.blankness ∙ b)) }
   refused_when (When.buffer_too_small {buffer = buffer} {x = x} reads e l) =
       record {
         why = Refusal.BufferTooSmall (value_length x);
@@ -120,49 +120,52 @@ module _ (image : List ℕ) (s n : ℕ) where
 
   data Getting (key : ℕ) (buffer : List ℕ) : Type 0 where
     get_no : (k : ℕ) × When image s n k (get key buffer) → Getting key buffer
-    gets : (r : ℕ) (x : Record) → ends image s n key Need.Nothing ≡ Looked.Live r x → value_length x ≤ length buffer → check_sum_fits (bytes_in (region_of s image r) x) ≡ true → Getting key buffer
+    gets : (r : ℕ) (x : Record) → ends image s n key None ≡ Looked.Live r x → value_length x ≤ length buffer → check_sum_fits (bytes_in (region_of s image r) x) ≡ true → Getting key buffer
 
   getting : (key : ℕ) (buffer : List ℕ) → Reads image s n (get key buffer) → Getting key buffer
-  getting key buffer reads = go (ends image s n key Need.Nothing) refl
+  getting key buffer reads = go (ends image s n key None) refl
     where
-      value : (r : ℕ) (x : Record) → ends image s n key Need.Nothing ≡ Looked.Live r x → (b : Bool) → ltb (length buffer) (value_length x) ≡ b → (d : Bool) → check_sum_fits (bytes_in (region_of s image r) x) ≡ d → Getting key buffer
+      value : (r : ℕ) (x : Record) → ends image s n key None ≡ Looked.Live r x → (b : Bool) → ltb (length buffer) (value_length x) ≡ b → (d : Bool) → check_sum_fits (bytes_in (region_of s image r) x) ≡ d → Getting key buffer
       value r x e true p d q = get_no (9, When.buffer_too_small reads e (ltb-true _ _ p))
       value r x e false p false q = get_no (10, When.invalid_check_sum reads e (ltb-false _ _ p) q)
       value r x e false p true q = gets r x e (ltb-false _ _ p) q
 
-      go : (l : Looked) → ends image s n key Need.Nothing ≡ l → Getting key buffer
+      go : (l : Looked) → ends image s n key None ≡ l → Getting key buffer
       go (Looked.Live r x) e = value r x e (ltb (length buffer) (value_length x)) refl (check_sum_fits (bytes_in (region_of s image r) x)) refl
       go (Looked.Bad f p) e = get_no (bad_line f reads (in_lookup get_looks e))
       go (Looked.Through seen) e = get_no (4, When.key_not_found reads get_looks e)
 
   pub data Appending (key : ℕ) (value : List ℕ) : Type 0 where
     append_no : (k : ℕ) × When image s n k (append key value) → Appending key value
-    appends : (seen : Seen) (r o : ℕ) → ends image s n key (Need.Room (record_length (length value))) ≡ Looked.Through seen
-        → first_room (record_length (length value)) s image (probes key n) ≡ Room.At r o true → Appending key value
+    appends : (seen : Seen) (r o : ℕ) → ends image s n key (Some (record_length (length value))) ≡ Looked.Through seen
+        → first_room (record_length (length value)) s image (probes key n) ≡ some_room r o true → Appending key value
 
   pub appending : (key : ℕ) (value : List ℕ) → Reads image s n (append key value) → Appending key value
-  appending key value reads = go (ends image s n key (Need.Room (record_length (length value)))) refl
+  appending key value reads = go (ends image s n key (Some (record_length (length value)))) refl
     where
-      placing : (seen : Seen) → ends image s n key (Need.Room (record_length (length value))) ≡ Looked.Through seen → (t : Room) → first_room (record_length (length value)) s image (probes key n) ≡ t → Appending key value
-      placing seen e Room.Nowhere f = append_no (6, When.flash_full reads e f)
-      placing seen e (Room.At r o false) f =
+      placing : (seen : Seen) → ends image s n key (Some (record_length (length value))) ≡ Looked.Through seen → (t : Option Room) → first_room (record_length (length value)) s image (probes key n) ≡ t → Appending key value
+      placing seen e =
+          room_cases
+          (λ t. first_room (record_length (length value)) s image (probes key n) ≡ t → Appending key value)
+          (λ f. append_no (6, When.flash_full reads e f))
+          (λ r o f.
           let (_, roomy) = room_from (record_length (length value)) s image (probes key n) r o false f in
-          append_no (8, When.place_not_blank reads e f (sym roomy.blankness))
-      placing seen e (Room.At r o true) f = appends seen r o e f
+          append_no (8, When.place_not_blank reads e f (sym roomy.blankness)))
+          (λ r o f. appends seen r o e f)
 
-      go : (l : Looked) → ends image s n key (Need.Room (record_length (length value))) ≡ l → Appending key value
+      go : (l : Looked) → ends image s n key (Some (record_length (length value))) ≡ l → Appending key value
       go (Looked.Live r x) e = append_no (5, When.key_already_exists reads e)
       go (Looked.Bad f p) e = append_no (bad_line f reads (in_lookup append_looks e))
       go (Looked.Through seen) e = placing seen e (first_room (record_length (length value)) s image (probes key n)) refl
 
   pub data Removing (how : Removal) (key : ℕ) : Type 0 where
     remove_no : (k : ℕ) × When image s n k (remove how key) → Removing how key
-    removes : (r : ℕ) (x : Record) → ends image s n key Need.Nothing ≡ Looked.Live r x → Removing how key
+    removes : (r : ℕ) (x : Record) → ends image s n key None ≡ Looked.Live r x → Removing how key
 
   pub removing : (how : Removal) (key : ℕ) → Reads image s n (remove how key) → Removing how key
-  removing how key reads = go (ends image s n key Need.Nothing) refl
+  removing how key reads = go (ends image s n key None) refl
     where
-      go : (l : Looked) → ends image s n key Need.Nothing ≡ l → Removing how key
+      go : (l : Looked) → ends image s n key None ≡ l → Removing how key
       go (Looked.Live r x) e = removes r x e
       go (Looked.Bad f p) e = remove_no (bad_line f reads (in_lookup remove_looks e))
       go (Looked.Through seen) e = remove_no (4, When.key_not_found reads remove_looks e)
@@ -229,11 +232,11 @@ module _ (image : List ℕ) (s n : ℕ) where
   -- Get that is not refused: a live record whose value the buffer takes, and its checksum is right.
   pub get_fine : (key : ℕ) (buffer : List ℕ) → refusal (answer_of (get key buffer) image s n) ≡ 0
       → Reads image s n (get key buffer)
-      × ((r : ℕ) × (x : Record) × (ends image s n key Need.Nothing ≡ Looked.Live r x) × (value_length x ≤ length buffer) × (check_sum_fits (bytes_in (region_of s image r) x) ≡ true))
+      × ((r : ℕ) × (x : Record) × (ends image s n key None ≡ Looked.Live r x) × (value_length x ≤ length buffer) × (check_sum_fits (bytes_in (region_of s image r) x) ≡ true))
   get_fine key buffer z = let reads = reads_if (get key buffer) z in (reads, go (getting key buffer reads))
     where
       go : Getting key buffer
-          → (r : ℕ) × (x : Record) × (ends image s n key Need.Nothing ≡ Looked.Live r x) × (value_length x ≤ length buffer) × (check_sum_fits (bytes_in (region_of s image r) x) ≡ true)
+          → (r : ℕ) × (x : Record) × (ends image s n key None ≡ Looked.Live r x) × (value_length x ≤ length buffer) × (check_sum_fits (bytes_in (region_of s image r) x) ≡ true)
       go (get_no (k, w)) = absurd (not_refused (get key buffer) z w)
       go (gets r x e l q) = (r, x, e, l, q)
 

@@ -8,7 +8,7 @@ use mathlib.Core.Bool.{Bool, true, false, cond}
 use mathlib.Core.List.{List, []}
 use lib.Dec.{ltb}
 use lib.ListN.{length}
-use Rattle.std.specs.Prelude.{Result}
+use Rattle.std.specs.Prelude.{Result, Option, Some, None}
 use Rattle.chip.specs.Chip.{erased, written}
 use Rattle.chip.specs.Geometry.{Fits, region_of, numbers}
 use Rattle.chip.proofs.Image.{fits_geometry}
@@ -19,7 +19,6 @@ use Rattle.format.specs.declared.Fault.TheVariants.{UnsupportedVersion, CorruptD
 use Rattle.format.specs.Layout.{record_length, record_bytes, kill_place, kill_bytes, check_sum_fits}
 use Rattle.region.specs.Walk.{bytes_in, value_length}
 use Rattle.refusals.specs.declared.Refusal.{Refusal}
-use Rattle.lookup.specs.declared.Need.{Need}
 use Rattle.lookup.specs.declared.Room.{Room}
 use Rattle.lookup.specs.declared.Seen.{Seen}
 use Rattle.lookup.specs.declared.Looked.{Looked}
@@ -44,33 +43,33 @@ use Rattle.pinned.proofs.Blank.{blank_append}
 module _ (image : List ℕ) (s n : ℕ) where
   -- What a call that reads makes of its lookup's end.
 
-  abbrev pub ends : ℕ → Need → Looked
+  abbrev pub ends : ℕ → Option ℕ → Looked
   ends key need = lookup_in key need s image (probes key n)
 
-  pub hit_is : {c : Call} {key : ℕ} → Reads image s n c → Looks c key Need.Nothing → hit_of image s n key ≡ hit_by (ends key Need.Nothing)
+  pub hit_is : {c : Call} {key : ℕ} → Reads image s n c → Looks c key None → hit_of image s n key ≡ hit_by (ends key None)
   unfolding hit_of first_refusal
   hit_is {c} {key} reads get_looks = ap (hit_after image s n key) (early_is {c = c} (Early.fine reads))
   hit_is {c} {key} reads remove_looks = ap (hit_after image s n key) (early_is {c = c} (Early.fine reads))
 
-  pub got_live : {key r : ℕ} {x : Record} (buffer : List ℕ) → Reads image s n (get key buffer) → ends key Need.Nothing ≡ Looked.Live r x
+  pub got_live : {key r : ℕ} {x : Record} (buffer : List ℕ) → Reads image s n (get key buffer) → ends key None ≡ Looked.Live r x
       → get_of image s n key buffer ≡ got_by s image buffer (hits r x)
   unfolding get_of
   got_live buffer reads e = ap (got_by s image buffer) (hit_is reads get_looks ∙ ap hit_by e)
 
   -- A removal of a live record.
-  pub removed_live : {how : Removal} {key r : ℕ} {x : Record} → Reads image s n (remove how key) → ends key Need.Nothing ≡ Looked.Live r x
+  pub removed_live : {how : Removal} {key r : ℕ} {x : Record} → Reads image s n (remove how key) → ends key None ≡ Looked.Live r x
       → outcome (remove how key) image s n ≡ record { answer = Written; image = written image (r * s + kill_place how x) (kill_bytes how x) }
   unfolding remove_of applied
   removed_live {how} {key} reads e = ap (remove_by how s image key) (hit_is reads remove_looks ∙ ap hit_by e)
 
-  pub append_by_lem : {key : ℕ} {value : List ℕ} {l : Looked} → Reads image s n (append key value) → ends key (Need.Room (record_length (length value))) ≡ l
+  pub append_by_lem : {key : ℕ} {value : List ℕ} {l : Looked} → Reads image s n (append key value) → ends key (Some (record_length (length value))) ≡ l
       → outcome (append key value) image s n ≡ append_by s image key value l
   append_by_lem {key} {value} reads e = outcome_is {c = append key value} (Early.fine reads) ∙ ap (append_by s image key value) e
 
-  pub append_placed : {key : ℕ} {value : List ℕ} {seen : Seen} {room : Room} → Reads image s n (append key value)
-      → ends key (Need.Room (record_length (length value))) ≡ Looked.Through seen → first_room (record_length (length value)) s image (probes key n) ≡ room
+  pub append_placed : {key : ℕ} {value : List ℕ} {seen : Seen} {room : Option Room} → Reads image s n (append key value)
+      → ends key (Some (record_length (length value))) ≡ Looked.Through seen → first_room (record_length (length value)) s image (probes key n) ≡ room
       → outcome (append key value) image s n ≡ carried s key value image (place_plan room)
-  append_placed {key} {value} reads e f = append_by_lem reads e ∙ ap (λ (t : Room). carried s key value image (place_plan t)) (gathered_first key (record_length (length value)) s image (probes key n) e ∙ f)
+  append_placed {key} {value} reads e f = append_by_lem reads e ∙ ap (λ (t : Option Room). carried s key value image (place_plan t)) (gathered_first key (record_length (length value)) s image (probes key n) e ∙ f)
 
   pub collect_is : Fits image s n
       → outcome collect image s n ≡ record { answer = ended_by s image (s * length (erased_by image s n)) (numbers 0 n); image = erase_all s (erased_by image s n) image }
@@ -93,9 +92,9 @@ module _ (image : List ℕ) (s n : ℕ) where
   unfolding initialise_of get_of
   initialise_anew key reads h =
       ap (λ (hit : Result Hit Refusal). initialise_by image s n key (got_by s image [] hit).answer) hit
-      ∙ go (ends key Need.Nothing) (subst (λ (t : Result Hit Refusal). 1 ≤ refusal (got_by s image [] t).answer) hit h)
+      ∙ go (ends key None) (subst (λ (t : Result Hit Refusal). 1 ≤ refusal (got_by s image [] t).answer) hit h)
     where
-      hit : hit_of image s n key ≡ hit_by (ends key Need.Nothing)
+      hit : hit_of image s n key ≡ hit_by (ends key None)
       hit = hit_is (record { fits = reads.fits; key_good = reads.key_good; not_large = omega arith }) (get_looks {buffer = []})
 
       blank : append_of (erased (n * s)) s n key [] ≡ anew key

@@ -4,8 +4,8 @@ use Prim.Native.Nat.{ℕ, ◌≤◌}
 use native.Mathlib.Omega.{arith}
 use mathlib.Core.Path.{◌≡◌, refl}
 use mathlib.Core.List.{List}
+use Rattle.std.specs.Prelude.{Option}
 use Rattle.format.specs.declared.Fault.{Fault}
-use Rattle.lookup.specs.declared.Need.{Need}
 use Rattle.store.specs.Call.{Call, get, initialise}
 use Rattle.pinned.specs.When.{Reads, Looks, get_looks, remove_looks, append_looks, MeetsBad, in_lookup, in_collect, When}
 
@@ -42,7 +42,7 @@ line_reads w = go (line w)
     go (later l h reads) m = reads
 
 -- R5.9: initialise has lines 1 and 2 alone: it stores no value, answers by no lookup of its own, and is no collect.
-no_looks : {c : Call} {key k : ℕ} {need : Need} → Looks c k need → c ≡ initialise key → ⊥
+no_looks : {c : Call} {key k : ℕ} {need : Option ℕ} → Looks c k need → c ≡ initialise key → ⊥
 no_looks get_looks e = let z : ◌≡◌ {A = ℕ} 0 1 = cc in omega arith
 no_looks remove_looks e = let z : ◌≡◌ {A = ℕ} 0 1 = cc in omega arith
 no_looks append_looks e = let z : ◌≡◌ {A = ℕ} 0 1 = cc in omega arith

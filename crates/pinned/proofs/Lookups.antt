@@ -11,6 +11,7 @@ use mathlib.Core.Logic.{◌↔◌, ⊎_elim}
 use lib.Dec.{leb}
 use lib.ListN.{length, take, drop}
 use borrow.Author.Tests.{le-leb, leb-true, leb-false}
+use Rattle.std.specs.Prelude.{Option, None}
 use Rattle.chip.specs.Chip.{is_blank}
 use Rattle.chip.specs.Geometry.{region_of}
 use Rattle.format.specs.declared.Record.{Record}
@@ -19,25 +20,24 @@ use Rattle.region.specs.declared.Stop.{Stop}
 use Rattle.region.specs.declared.Want.{Want}
 use Rattle.region.specs.declared.Event.{Event}
 use Rattle.region.specs.Walk.{ending, event_in}
-use Rattle.lookup.specs.declared.Need.{Need}
 use Rattle.lookup.specs.declared.Room.{Room}
 use Rattle.lookup.specs.declared.Seen.{Seen}
 use Rattle.lookup.specs.declared.Looked.{Looked}
-use Rattle.lookup.specs.Gather.{unseen, or_room}
+use Rattle.lookup.specs.Gather.{unseen, or_room, some_room}
 use Rattle.lookup.specs.Turns.{turn, lookup_in}
 use Rattle.lookup.specs.Words.{room_on, first_room, goes_on, Passed}
-use Rattle.lookup.proofs.Scan.{Looks, looks_so, looks_is}
+use Rattle.lookup.proofs.Scan.{Looks, looks_so, looks_is, same_room}
 use Rattle.pinned.specs.Words.{Decides, HasRoom, FirstRoom}
 
 module _ (image : List ℕ) (s key : ℕ) where
   -- A region is passed where the walk for the key comes to the end.
   pub end_passed : (q : ℕ) {o : ℕ} → event_in (region_of s image q) (Want.Key key) ≡ Event.End o → Passed image s key q
-  end_passed q e = ap (λ (t : Event). goes_on (turn unseen Need.Nothing q (region_of s image q) t)) e
+  end_passed q e = ap (λ (t : Event). goes_on (turn unseen None q (region_of s image q) t)) e
 
   pub passed_end : (q : ℕ) → Passed image s key q → (o : ℕ) × (event_in (region_of s image q) (Want.Key key) ≡ Event.End o)
   passed_end q h = go (event_in (region_of s image q) (Want.Key key)) h
     where
-      go : (e : Event) → goes_on (turn unseen Need.Nothing q (region_of s image q) e) ≡ true → (o : ℕ) × (e ≡ Event.End o)
+      go : (e : Event) → goes_on (turn unseen None q (region_of s image q) e) ≡ true → (o : ℕ) × (e ≡ Event.End o)
       go (Event.Live x) h = absurd (let z : ◌≡◌ {A = ℕ} 0 1 = cc in omega arith)
       go (Event.Bad f o) h = absurd (let z : ◌≡◌ {A = ℕ} 0 1 = cc in omega arith)
       go (Event.End o) h = (o, refl)
@@ -66,7 +66,7 @@ module _ (image : List ℕ) (s key : ℕ) where
   onward h (bad d) = bad (later h d)
   onward h (through k) = through (with_one h k)
 
-  ends : {need : Need} {seen : Seen} {order : List ℕ} {l : Looked} → Looks key need s image seen order l → Ends order l
+  ends : {need : Option ℕ} {seen : Seen} {order : List ℕ} {l : Looked} → Looks key need s image seen order l → Ends order l
   ends Looks.over = through (λ q m. absurd (Memᴰ.not-nil m))
   ends (Looks.live e) = live (first e)
   ends (Looks.bad e) = bad (first e)
@@ -74,22 +74,22 @@ module _ (image : List ℕ) (s key : ℕ) where
 
   -- And back.
 
-  past : (need : Need) (before rs : List ℕ) {l : Looked} → AllPassed before → ((seen : Seen) → Looks key need s image seen rs l) → (seen : Seen) → Looks key need s image seen (before ++ rs) l
+  past : (need : Option ℕ) (before rs : List ℕ) {l : Looked} → AllPassed before → ((seen : Seen) → Looks key need s image seen rs l) → (seen : Seen) → Looks key need s image seen (before ++ rs) l
   past need [] rs h looks seen = looks seen
   past need (q ∷ before) rs h looks seen = let (o, e) = passed_end q (h q (Memᴰ.head refl)) in Looks.more e (past need before rs (λ p m. h p (Memᴰ.tail m)) looks _)
 
-  decided : (need : Need) {order : List ℕ} {r : ℕ} {e : Event} {l : Looked} (d : Decides image s key order r e)
+  decided : (need : Option ℕ) {order : List ℕ} {r : ℕ} {e : Event} {l : Looked} (d : Decides image s key order r e)
       → ((seen : Seen) → Looks key need s image seen (r ∷ d.after) l) → lookup_in key need s image order ≡ l
   decided need {r = r} d looks = ap (lookup_in key need s image) d.split ∙ looks_is key need s image (past need d.before (r ∷ d.after) d.passed looks unseen)
 
-  all_through : (need : Need) (order : List ℕ) (seen : Seen) → AllPassed order → (got : Seen) × Looks key need s image seen order (Looked.Through got)
+  all_through : (need : Option ℕ) (order : List ℕ) (seen : Seen) → AllPassed order → (got : Seen) × Looks key need s image seen order (Looked.Through got)
   all_through need [] seen h = (seen, Looks.over)
   all_through need (q ∷ rs) seen h =
       let (o, e) = passed_end q (h q (Memᴰ.head refl)) in
       let (got, rest) = all_through need rs _ (λ p m. h p (Memᴰ.tail m)) in
       (got, Looks.more e rest)
 
-  module _ (need : Need) (order : List ℕ) where
+  module _ (need : Option ℕ) (order : List ℕ) where
     pub live_is : (r : ℕ) (x : Record) → (lookup_in key need s image order ≡ Looked.Live r x) ↔ Decides image s key order r (Event.Live x)
     live_is r x = (λ h. go (ends (looks_so key need s image h)), λ d. decided need d (λ seen. Looks.live d.here))
       where
@@ -125,7 +125,7 @@ module _ (image : List ℕ) (s len : ℕ) where
   no_room_here q rs h = go (ending (region_of s image q)) refl
     where
       fits : (p : ℕ) → ending (region_of s image q) ≡ Stop.End p → (b : Bool) → leb (p + len) (length (region_of s image q)) ≡ b
-          → or_room (cond b (Room.At q p (is_blank_at q p)) Room.Nowhere) (first_room len s image rs) ≡ first_room len s image rs
+          → or_room (cond b (some_room q p (is_blank_at q p)) None) (first_room len s image rs) ≡ first_room len s image rs
       fits p e true t = absurd (h p (record { ends = e; enough = leb-true _ _ t }))
       fits p e false t = refl
 
@@ -138,18 +138,18 @@ module _ (image : List ℕ) (s len : ℕ) where
   no_room_in (q ∷ before) rs h =
       no_room_here q (before ++ rs) (λ p. h q p (Memᴰ.head refl)) ∙ no_room_in before rs (λ q p m. h q p (Memᴰ.tail m))
 
-  room_here : {r o : ℕ} (rs : List ℕ) → HasRoom image s len r o → first_room len s image (r ∷ rs) ≡ Room.At r o (is_blank_at r o)
+  room_here : {r o : ℕ} (rs : List ℕ) → HasRoom image s len r o → first_room len s image (r ∷ rs) ≡ some_room r o (is_blank_at r o)
   unfolding first_room
   room_here {r} {o} rs h =
       ap (λ (stop : Stop). or_room (room_on len r (region_of s image r) stop) (first_room len s image rs)) h.ends
       ∙ rw (le-leb (o + len) (length (region_of s image r)) h.enough)
 
-  first_is : {order : List ℕ} {r o : ℕ} → FirstRoom image s len order r o → first_room len s image order ≡ Room.At r o (is_blank_at r o)
+  first_is : {order : List ℕ} {r o : ℕ} → FirstRoom image s len order r o → first_room len s image order ≡ some_room r o (is_blank_at r o)
   first_is {r = r} f = ap (first_room len s image) f.split ∙ no_room_in f.before (r ∷ f.after) f.passed ∙ room_here f.after f.here
 
-  data Rooms (order : List ℕ) : Room → Type 0 where
-    at : {r o : ℕ} → FirstRoom image s len order r o → Rooms order (Room.At r o (is_blank_at r o))
-    nowhere : ((q p : ℕ) → Memᴰ q order → HasRoom image s len q p → ⊥) → Rooms order Room.Nowhere
+  data Rooms (order : List ℕ) : Option Room → Type 0 where
+    at : {r o : ℕ} → FirstRoom image s len order r o → Rooms order (some_room r o (is_blank_at r o))
+    nowhere : ((q p : ℕ) → Memᴰ q order → HasRoom image s len q p → ⊥) → Rooms order None
 
   rooms : (order : List ℕ) → Rooms order (first_room len s image order)
   unfolding first_room
@@ -160,12 +160,12 @@ module _ (image : List ℕ) (s len : ℕ) where
           → (r p : ℕ) → Memᴰ r (q ∷ ps) → HasRoom image s len r p → ⊥
       with_one h k r p m has = ⊎_elim (λ (e : r ≡ q). h p (rw (sym e) has)) (λ t. k r p t has) (Memᴰ.cases_cons m)
 
-      onward : {room : Room} → ((p : ℕ) → HasRoom image s len q p → ⊥) → Rooms rs room → Rooms (q ∷ rs) room
+      onward : {room : Option Room} → ((p : ℕ) → HasRoom image s len q p → ⊥) → Rooms rs room → Rooms (q ∷ rs) room
       onward h (at f) = at (record { before = q ∷ f.before; after = f.after; split = ap (λ (l : List ℕ). q ∷ l) f.split; passed = with_one h f.passed; here = f.here })
       onward h (nowhere k) = nowhere (with_one h k)
 
       fits : (p : ℕ) → ending (region_of s image q) ≡ Stop.End p → (b : Bool) → leb (p + len) (length (region_of s image q)) ≡ b → Rooms rs (first_room len s image rs)
-          → Rooms (q ∷ rs) (or_room (cond b (Room.At q p (is_blank_at q p)) Room.Nowhere) (first_room len s image rs))
+          → Rooms (q ∷ rs) (or_room (cond b (some_room q p (is_blank_at q p)) None) (first_room len s image rs))
       fits p e true t ih =
           at (record { before = []; after = rs; split = refl; passed = λ r o m h. Memᴰ.not-nil m; here = record { ends = e; enough = leb-true _ _ t } })
       fits p e false t ih =
@@ -182,21 +182,19 @@ module _ (image : List ℕ) (s len : ℕ) where
       go (Stop.End p) e ih = fits p e (leb (p + len) (length (region_of s image q))) refl ih
       go (Stop.Bad f p) e ih = onward (λ o h. let a = h.ends in let z : ◌≡◌ {A = ℕ} 0 1 = cc in omega arith) ih
 
-  pub room_at : (order : List ℕ) (r o : ℕ) (blank : Bool) → (first_room len s image order ≡ Room.At r o blank) ↔ (FirstRoom image s len order r o × (blank ≡ is_blank_at r o))
-  room_at order r o blank = (λ h. go (rooms order) h, λ (f, e). first_is f ∙ ap (Room.At r o) (sym e))
+  pub room_at : (order : List ℕ) (r o : ℕ) (blank : Bool) → (first_room len s image order ≡ some_room r o blank) ↔ (FirstRoom image s len order r o × (blank ≡ is_blank_at r o))
+  room_at order r o blank = (λ h. go (rooms order) h, λ (f, e). first_is f ∙ ap (some_room r o) (sym e))
     where
-      go : {room : Room} → Rooms order room → room ≡ Room.At r o blank → FirstRoom image s len order r o × (blank ≡ is_blank_at r o)
+      go : {room : Option Room} → Rooms order room → room ≡ some_room r o blank → FirstRoom image s len order r o × (blank ≡ is_blank_at r o)
       go (at {r = q} {o = p} f) h =
-          let a : r ≡ q = cc in
-          let b : o ≡ p = cc in
-          let c : blank ≡ is_blank_at q p = cc in
+          let (a, b, c) = same_room (sym h) in
           rw (a, b) (f, c)
       go (nowhere k) h = absurd (let z : ◌≡◌ {A = ℕ} 0 1 = cc in omega arith)
 
-  pub room_nowhere : (order : List ℕ) → (first_room len s image order ≡ Room.Nowhere) ↔ ((q p : ℕ) → Memᴰ q order → HasRoom image s len q p → ⊥)
+  pub room_nowhere : (order : List ℕ) → (first_room len s image order ≡ None) ↔ ((q p : ℕ) → Memᴰ q order → HasRoom image s len q p → ⊥)
   unfolding first_room
   room_nowhere order = (λ h. go (rooms order) h, λ k. ap (first_room len s image) (sym (append-nil order)) ∙ no_room_in order [] k)
     where
-      go : {room : Room} → Rooms order room → room ≡ Room.Nowhere → (q p : ℕ) → Memᴰ q order → HasRoom image s len q p → ⊥
+      go : {room : Option Room} → Rooms order room → room ≡ None → (q p : ℕ) → Memᴰ q order → HasRoom image s len q p → ⊥
       go (at f) h = absurd (let z : ◌≡◌ {A = ℕ} 0 1 = cc in omega arith)
       go (nowhere k) h = k

@@ -8,6 +8,8 @@ use mathlib.Core.List.{List, [], ◌++◌, Memᴰ}
 use mathlib.Core.Logic.{◌↔◌, ⊎_elim}
 use lib.ListN.{length, take, drop}
 use borrow.Author.Tests.{lt-ltb, le-ltb}
+use Rattle.lookup.specs.Gather.{some_room}
+use Rattle.std.specs.Prelude.{Option, Some, None}
 use Rattle.chip.specs.Chip.{Bytes, written, erased, is_blank}
 use Rattle.chip.specs.Geometry.{Fits, region_of}
 use Rattle.chip.proofs.Image.{region-length}
@@ -21,8 +23,6 @@ use Rattle.region.specs.declared.Want.{Want}
 use Rattle.format.specs.Layout.{record_bytes, check_sum_fits}
 use Rattle.region.specs.Walk.{event_in, bytes_in, value_length, value_in}
 use Rattle.refusals.specs.declared.Refusal.{Refusal}
-use Rattle.lookup.specs.declared.Need.{Need}
-use Rattle.lookup.specs.declared.Room.{Room}
 use Rattle.lookup.specs.declared.Looked.{Looked}
 use Rattle.lookup.specs.declared.Seen.{Seen}
 use Rattle.refusals.specs.Refusals.{refusal_of}
@@ -75,7 +75,7 @@ get_refuses key buffer image s n = ⊎_elim (λ z. (λ e. omega arith, λ e. ome
 -- The ends of a lookup that these rules name.
 
 -- R6.4: no region decides.
-pub no_region_decides : (key : ℕ) (need : Need) (image : List ℕ) (s n : ℕ) → 0 < n
+pub no_region_decides : (key : ℕ) (need : Option ℕ) (image : List ℕ) (s n : ℕ) → 0 < n
     → ((seen : Seen) × (lookup_in key need s image (probes key n) ≡ Looked.Through seen)) ↔ ((r : ℕ) → r < n → Passed image s key r)
 no_region_decides key need image s n p =
     let t = through_is image s key need (probes key n) in
@@ -86,12 +86,12 @@ pub passed_is : (key : ℕ) (image : List ℕ) (s q : ℕ) → Passed image s ke
 passed_is key image s q = (passed_end image s key q, λ h. let (o, e) = h in end_passed image s key q e)
 
 -- R5.1, R6.5: the lookup is decided by a live record of the key, in a region of the probe order before which none decides.
-pub meets_live : (key : ℕ) (need : Need) (image : List ℕ) (s n r : ℕ) (x : Record)
+pub meets_live : (key : ℕ) (need : Option ℕ) (image : List ℕ) (s n r : ℕ) (x : Record)
     → (lookup_in key need s image (probes key n) ≡ Looked.Live r x) ↔ Decides image s key (probes key n) r (Event.Live x)
 meets_live key need image s n r x = live_is image s key need (probes key n) r x
 
 -- R5.1: it is decided by a bad place: at this place of the image, in a region before which none decides.
-pub meets_bad : (key : ℕ) (need : Need) (image : List ℕ) (s n : ℕ) (f : Fault) (place : ℕ)
+pub meets_bad : (key : ℕ) (need : Option ℕ) (image : List ℕ) (s n : ℕ) (f : Fault) (place : ℕ)
     → (lookup_in key need s image (probes key n) ≡ Looked.Bad f place)
     ↔ ((r : ℕ) × (o : ℕ) × (r * length (region_of s image r) + o ≡ place) × Decides image s key (probes key n) r (Event.Bad f o))
 meets_bad key need image s n f place = bad_is image s key need (probes key n) f place
@@ -104,19 +104,19 @@ deciding_region {n = n} {key = key} {r = r} f d =
 
 -- R6.6: no region has room.
 pub no_room : (key len : ℕ) (image : List ℕ) (s n : ℕ) → 0 < n
-    → (first_room len s image (probes key n) ≡ Room.Nowhere) ↔ ((r o : ℕ) → r < n → HasRoom image s len r o → ⊥)
+    → (first_room len s image (probes key n) ≡ None) ↔ ((r o : ℕ) → r < n → HasRoom image s len r o → ⊥)
 no_room key len image s n p =
     let t = room_nowhere image s len (probes key n) in
     (λ h r o l. t.0 h r o ((members key n r p).0 l), λ k. t.1 (λ r o m. k r o ((members key n r p).1 m)))
 
 -- R5.4: the first region in probe order that has room for so many bytes from o on, and whether the record's place there is blank.
 pub first_room_lem : (key len : ℕ) (image : List ℕ) (s n r o : ℕ) (blank : Bool)
-    → (first_room len s image (probes key n) ≡ Room.At r o blank)
+    → (first_room len s image (probes key n) ≡ some_room r o blank)
     ↔ (FirstRoom image s len (probes key n) r o × (blank ≡ is_blank (take len (drop o (region_of s image r)))))
 first_room_lem key len image s n r o blank = room_at image s len (probes key n) r o blank
 
 -- R5.4: that room is the one that append writes to, where no region decided.
-pub append_takes_first : (key len : ℕ) (image : List ℕ) (s n : ℕ) {seen : Seen} → lookup_in key (Need.Room len) s image (probes key n) ≡ Looked.Through seen
+pub append_takes_first : (key len : ℕ) (image : List ℕ) (s n : ℕ) {seen : Seen} → lookup_in key (Some len) s image (probes key n) ≡ Looked.Through seen
     → append_plan (Looked.Through seen) ≡ place_plan (first_room len s image (probes key n))
 append_takes_first key len image s n h = ap place_plan (gathered_first key len s image (probes key n) h)
 
@@ -153,13 +153,13 @@ pub get_answers : (key : ℕ) (buffer image : List ℕ) (s n : ℕ) → refusal 
     → Reads image s n (get key buffer)
     × ((r : ℕ)
     × (x : Record)
-    × (lookup_in key Need.Nothing s image (probes key n) ≡ Looked.Live r x)
+    × (lookup_in key None s image (probes key n) ≡ Looked.Live r x)
     × (value_length x ≤ length buffer)
     × (check_sum_fits (bytes_in (region_of s image r) x) ≡ true))
 get_answers key buffer image s n h = get_fine image s n key buffer h
 
 -- R5.2: get of a live record x of region r, of which the value's bytes are `value_in`: its length less 15 of them (R4.7).
-module _ (key : ℕ) (buffer image : List ℕ) (s n r : ℕ) (x : Record) (reads : Reads image s n (get key buffer)) (live : lookup_in key Need.Nothing s image (probes key n) ≡ Looked.Live r x) where
+module _ (key : ℕ) (buffer image : List ℕ) (s n r : ℕ) (x : Record) (reads : Reads image s n (get key buffer)) (live : lookup_in key None s image (probes key n) ≡ Looked.Live r x) where
   -- R5.2: a shorter buffer is filled with the value's first bytes: BufferTooSmall with the value's length, the checksum not looked at.
   pub get_short : length buffer < value_length x
       → get_of image s n key buffer ≡ record { answer = Refused (Refusal.BufferTooSmall (value_length x)); buffer = take (length buffer) (value_in (region_of s image r) x) }

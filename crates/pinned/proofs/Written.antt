@@ -9,6 +9,8 @@ use lib.Dec.{eqb}
 use lib.ListN.{length, get_or, take, drop, length-drop}
 use lib.Seq.{length-take-le, get_or-drop}
 use borrow.Author.Tests.{eqb-true}
+use Rattle.lookup.specs.Gather.{some_room}
+use Rattle.std.specs.Prelude.{Some, None}
 use Rattle.chip.specs.Chip.{Bytes, written}
 use Rattle.chip.specs.Geometry.{region_of}
 use Rattle.chip.proofs.Laws.{bytes_cons, blank_at_lem}
@@ -24,8 +26,6 @@ use Rattle.format.proofs.Numbers.{no_bytes}
 use Rattle.format.proofs.Bytes.{length_record}
 use Rattle.format.proofs.Killed.{kill_length_lem}
 use Rattle.region.proofs.Theorems.{live_decides, append_writes, removal_kills, dead_not_live}
-use Rattle.lookup.specs.declared.Need.{Need}
-use Rattle.lookup.specs.declared.Room.{Room}
 use Rattle.lookup.specs.declared.Seen.{Seen}
 use Rattle.lookup.specs.declared.Looked.{Looked}
 use Rattle.lookup.specs.Words.{first_room}
@@ -42,8 +42,8 @@ use Rattle.pinned.proofs.Calls.{append_placed, removed_live}
 use Rattle.pinned.proofs.Answers.{Appending, appending, Removing, removing, not_refused, reads_if}
 
 module _ (image : List ℕ) (s n key : ℕ) (value : List ℕ) (v : Bytes value) (reads : Reads image s n (append key value)) where
-  appended_at : {seen : Seen} (r o : ℕ) → lookup_in key (Need.Room (record_length (length value))) s image (probes key n) ≡ Looked.Through seen
-      → first_room (record_length (length value)) s image (probes key n) ≡ Room.At r o true → Appended image s n key value (image_after (append key value) image s n)
+  appended_at : {seen : Seen} (r o : ℕ) → lookup_in key (Some (record_length (length value))) s image (probes key n) ≡ Looked.Through seen
+      → first_room (record_length (length value)) s image (probes key n) ≡ some_room r o true → Appended image s n key value (image_after (append key value) image s n)
   unfolding record_bytes applied
   appended_at r o e f =
       let (m, roomy) = room_from (record_length (length value)) s image (probes key n) r o true f in
@@ -113,9 +113,9 @@ kill_fits Removal.Invalidate x l = omega arith
 kill_fits Removal.Zeroise x l = omega (arith, kill_length_lem Removal.Zeroise x l)
 
 module _ (how : Removal) (image : List ℕ) (s n key : ℕ) (v : Bytes image) (reads : Reads image s n (remove how key)) where
-  removed_at : (r : ℕ) (x : Record) → lookup_in key Need.Nothing s image (probes key n) ≡ Looked.Live r x → Removed how image s n key (image_after (remove how key) image s n)
+  removed_at : (r : ℕ) (x : Record) → lookup_in key None s image (probes key n) ≡ Looked.Live r x → Removed how image s n key (image_after (remove how key) image s n)
   removed_at r x e =
-      let o = found key Need.Nothing r x reads.fits e in
+      let o = found key None r x reads.fits e in
       let size = region-length reads.fits o.number in
       let region = region_of s image r in
       let new = kill_bytes how x in

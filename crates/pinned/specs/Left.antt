@@ -1,5 +1,6 @@
 -- What a call leaves of the image, where it is refused and where it is not.
-use Rattle.std.specs.Prelude.{ℕ, ◌+◌, ◌*◌, ◌≡◌, true, false, cond, length, take, drop}
+use Rattle.lookup.specs.Gather.{some_room}
+use Rattle.std.specs.Prelude.{ℕ, ◌+◌, ◌*◌, ◌≡◌, true, false, cond, length, take, drop, None}
 use mathlib.Core.List.{List, [], ◌∷◌, ◌++◌, Memᴰ}
 use Rattle.chip.specs.Chip.{written, erased, is_blank}
 use Rattle.chip.specs.Geometry.{geometry, region_of, erase_region, numbers}
@@ -9,8 +10,6 @@ use Rattle.region.specs.declared.Stop.{Stop}
 use Rattle.format.specs.declared.Removal.{Removal}
 use Rattle.format.specs.Layout.{record_length, record_bytes, kill_place, kill_bytes, live}
 use Rattle.region.specs.Walk.{walk_from, records, ending, dead}
-use Rattle.lookup.specs.declared.Need.{Need}
-use Rattle.lookup.specs.declared.Room.{Room}
 use Rattle.lookup.specs.declared.Looked.{Looked}
 use Rattle.lookup.specs.Words.{first_room}
 use Rattle.lookup.specs.Turns.{lookup_in}
@@ -67,7 +66,7 @@ left_by (initialise key) image s n = image
 pub record Appended (image : List ℕ) (s n key : ℕ) (value image' : List ℕ) : Type 0 where
   pub region : ℕ
   pub place : ℕ
-  pub first : first_room (record_length (length value)) s image (probes key n) ≡ Room.At region place true
+  pub first : first_room (record_length (length value)) s image (probes key n) ≡ some_room region place true
   pub one_write : image' ≡ written image (region * s + place) (record_bytes key value)
   pub was_blank : is_blank (take (record_length (length value)) (drop place (region_of s image region))) ≡ true
   pub stands_there : take (record_length (length value)) (drop place (region_of s image' region)) ≡ record_bytes key value
@@ -79,7 +78,7 @@ pub record Appended (image : List ℕ) (s n key : ℕ) (value image' : List ℕ)
 pub record Removed (how : Removal) (image : List ℕ) (s n key : ℕ) (image' : List ℕ) : Type 0 where
   pub region : ℕ
   pub rec : Record
-  pub found : lookup_in key Need.Nothing s image (probes key n) ≡ Looked.Live region rec
+  pub found : lookup_in key None s image (probes key n) ≡ Looked.Live region rec
   pub one_write : image' ≡ written image (region * s + kill_place how rec) (kill_bytes how rec)
   pub before : List Record
   pub after : List Record

@@ -5,9 +5,11 @@ use native.Mathlib.Omega.{arith}
 use mathlib.Core.Path.{◌≡◌, refl}
 use mathlib.Core.Bool.{Bool, true, false, cond}
 use borrow.Author.Tests.{lt-ltb, le-leb}
+use Rattle.std.specs.Prelude.{Option}
 use Rattle.format.specs.declared.Record.{Record}
 use Rattle.format.specs.declared.Fault.{Fault}
 use Rattle.lookup.specs.declared.Room.{Room}
+use Rattle.lookup.proofs.Scan.{room_cases}
 use Rattle.lookup.specs.declared.Seen.{Seen}
 use Rattle.lookup.specs.declared.Looked.{Looked}
 use Rattle.plans.specs.declared.Answer.{Answer}
@@ -15,7 +17,6 @@ use Rattle.plans.specs.declared.Aim.{Aim}
 use Rattle.plans.specs.declared.Lent.{Lent}
 use Rattle.plans.specs.declared.Edit.{Edit}
 use Rattle.plans.specs.declared.Edits.{Edits}
-use Rattle.plans.specs.declared.First.{First}
 use Rattle.plans.specs.declared.Then.{Then}
 use Rattle.plans.specs.declared.Plan.{Plan}
 use Rattle.plans.specs.Answers.{starts_anew}
@@ -27,7 +28,7 @@ use Rattle.planning.proofs.Shapes.{renews, Shape, is_refused, is_given, is_remov
 use Rattle.planning.proofs.Gathered.{by_room}
 
 -- What a plan keeps before its value is given: it may rest, or it gives one. `Sound` is `PlanFits` with this in place of `rests`.
-abbrev pub settles : Lent → First → Then → Bool
+abbrev pub settles : Lent → Option Edit → Then → Bool
 settles lent f (Then.Ends answer) = answer_rests f answer
 settles lent f (Then.Seek aim i seen) = true
 settles lent f (Then.Sweep r k) = true
@@ -64,10 +65,13 @@ module _ (s n : ℕ) (lent : Lent) where
     pub anew_fits : lent_to_append lent ≡ true → 1 ≤ n → PlanFits s n lent (anew n)
     anew_fits h least = record { value_short_lem = short; edits_good = le-leb n n (omega arith); next_good = begins_fits s n lent h least; at_rest = refl }
 
-    place_fits_lem : (room : Room) → room_fits s n (value_lent lent) room ≡ true → PlanFits s n lent (place_plan room)
-    place_fits_lem Room.Nowhere h = ends_fits s n lent short _
-    place_fits_lem (Room.At r o false) h = ends_fits s n lent short _
-    place_fits_lem (Room.At r o true) h = one_fits (Edit.Lay r o) h
+    place_fits_lem : (room : Option Room) → room_fits s n (value_lent lent) room ≡ true → PlanFits s n lent (place_plan room)
+    place_fits_lem =
+        room_cases
+        (λ room. room_fits s n (value_lent lent) room ≡ true → PlanFits s n lent (place_plan room))
+        (λ h. ends_fits s n lent short _)
+        (λ r o h. ends_fits s n lent short _)
+        (λ r o h. one_fits (Edit.Lay r o) h)
 
     -- The plan after a value was read, with its answer.
     pub given_fits : (again : Bool) (answer : Answer) → renews again lent ≡ true → 1 ≤ n → PlanFits s n lent (given_plan n again answer)

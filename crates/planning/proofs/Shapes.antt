@@ -4,10 +4,10 @@
 use Prim.Native.Nat.{ℕ}
 use mathlib.Core.Path.{◌≡◌, refl}
 use mathlib.Core.Bool.{Bool, true, false}
+use Rattle.std.specs.Prelude.{Option, Some, None}
 use Rattle.format.specs.declared.Record.{Record}
 use Rattle.format.specs.declared.Removal.{Removal}
 use Rattle.format.specs.Layout.{record_length}
-use Rattle.lookup.specs.declared.Need.{Need}
 use Rattle.lookup.specs.declared.Seen.{Seen}
 use Rattle.lookup.specs.declared.Looked.{Looked}
 use Rattle.lookup.specs.Turns.{refused_by, hit_by}
@@ -35,9 +35,9 @@ pub data Shape (n : ℕ) (lent : Lent) (t : Bool) : Looked → Plan → Type 0 w
   is_anew : {looked : Looked} → (t ≡ true → lent_to_append lent ≡ true) → Shape n lent t looked (anew n)
 
 -- What a lookup is for, where a value of so many bytes is lent: nothing, or the room of its record.
-pub data Needs (len : ℕ) : Need → Type 0 where
-  for_nothing : Needs len Need.Nothing
-  for_record : Needs len (Need.Room (record_length len))
+pub data Needs (len : ℕ) : Option ℕ → Type 0 where
+  for_nothing : Needs len None
+  for_record : Needs len (Some (record_length len))
 
 -- what is lent none can be appended, as an empty value
 nothing_appends : (lent : Lent) → lent_nothing lent ≡ true → lent_to_append lent ≡ true

@@ -1,11 +1,10 @@
 -- The plan of an operation after its lookup: a refusal, an answer, or edits and what follows them. One row for each aim in `need_of` and in `plan`,
 -- and one in `lent_for` (plans, Fits).
-use Rattle.std.specs.Prelude.{ℕ, Bool, true, false, ◌&&◌, cond, Result, Err, Ok}
+use Rattle.std.specs.Prelude.{ℕ, Bool, true, false, ◌&&◌, cond, Result, Err, Ok, Option, Some, None}
 use Rattle.format.specs.declared.Record.{Record}
 use Rattle.format.specs.declared.Removal.{Removal}
 use Rattle.format.specs.Layout.{record_length}
 use Rattle.refusals.specs.declared.Refusal.{Refusal}
-use Rattle.lookup.specs.declared.Need.{Need}
 use Rattle.lookup.specs.declared.Room.{Room}
 use Rattle.lookup.specs.declared.Looked.{Looked}
 use Rattle.lookup.specs.declared.Hit.{Hit}
@@ -20,11 +19,11 @@ use Rattle.plans.specs.Answers.{starts_anew}
 use Rattle.plans.specs.Writes.{follows, ends, refuses, look}
 
 -- R5.4: what an aim's lookup is for: append's gathers room for its record, where a value of so many bytes is lent, the others gather nothing
-abbrev pub need_of : Aim → ℕ → Need
-need_of Aim.Get len = Need.Nothing
-need_of Aim.Append len = Need.Room (record_length len)
-need_of (Aim.Remove how) len = Need.Nothing
-need_of Aim.Initialise len = Need.Nothing
+abbrev pub need_of : Aim → ℕ → Option ℕ
+need_of Aim.Get len = None
+need_of Aim.Append len = Some (record_length len)
+need_of (Aim.Remove how) len = None
+need_of Aim.Initialise len = None
 
 -- R8.8: Written is answered after these are done
 abbrev pub writes : Edits → Plan
@@ -45,10 +44,9 @@ get_plan (Err w) = refuses w
 
 -- R5.4: no region has room: FlashFull. A byte of the record's place there is not 255: CorruptData, and no other region is tried. Else one write
 -- puts the record at o: Written.
-abbrev pub place_plan : Room → Plan
-place_plan Room.Nowhere = refuses Refusal.FlashFull
-place_plan (Room.At r o false) = refuses Refusal.CorruptData
-place_plan (Room.At r o true) = writes (Edits.One (Edit.Lay r o))
+abbrev pub place_plan : Option Room → Plan
+place_plan None = refuses Refusal.FlashFull
+place_plan (Some room) = cond room.blank (writes (Edits.One (Edit.Lay room.region room.at))) (refuses Refusal.CorruptData)
 
 -- R5.3: a live record decides: KeyAlreadyExists. A bad place decides: its refusal. R5.4: no region decides: the first that has room.
 abbrev pub append_plan : Looked → Plan

@@ -4,20 +4,18 @@ ghost use Rattle.plans.specs.declared.Edits.TheVariants.{One};
 ghost use Rattle.planning.specs.Planning.{need_of, writes, gives, anew, get_plan, place_plan, append_plan, remove_plan, initialise_plan, plan, given_plan};
 
 use format::{Record, Removal};
-use lookup::{Hit, Looked, Need, Room, Seen};
+use lookup::{Hit, Looked, Room, Seen};
 use plans::{Aim, Answer, Edit, Edits, Plan, Then};
 use refusals::Refusal;
 
-// What an aim's lookup is for, where a value of so many bytes is lent.
-pub fn need_of(aim: Aim, len: usize) -> Need
+// The bytes of the record that an aim's lookup needs room for, where a value of so many is lent: only append needs any.
+pub fn need_of(aim: Aim, len: usize) -> Option<usize>
     requires { len ≤ 4079 }
     ensures { result ≡ need_of aim len }
 {
     match aim {
-        Aim::Get => Need::Nothing,
-        Aim::Append => Need::Room(len + Record::LEAST),
-        Aim::Remove(_) => Need::Nothing,
-        Aim::Initialise => Need::Nothing,
+        Aim::Append => Some(len + Record::LEAST),
+        Aim::Get | Aim::Remove(_) | Aim::Initialise => None,
     }
 }
 
@@ -66,10 +64,10 @@ fn get_plan(hit: Result<Hit, Refusal>) -> Plan
     }
 }
 
-fn place_plan(room: Room) -> Plan
+fn place_plan(room: Option<Room>) -> Plan
     ensures { result ≡ place_plan room }
 {
-    let Room::At { region, at, blank } = room else {
+    let Some(Room { region, at, blank }) = room else {
         return plans::refuse(Refusal::FlashFull);
     };
     if blank {
@@ -85,8 +83,7 @@ pub fn append_plan(looked: Looked) -> Plan
     let Looked::Through(seen) = looked else {
         return plans::refuse(looked.refusal());
     };
-    let room = seen.room;
-    place_plan(room)
+    place_plan(seen.room)
 }
 
 pub fn remove_plan(how: Removal, hit: Result<Hit, Refusal>) -> Plan

@@ -6,6 +6,7 @@ use mathlib.Core.Path.{◌≡◌, refl, subst}
 use mathlib.Core.Bool.{Bool, true, false, ◌&&◌, cond}
 use lib.Dec.{ltb, leb}
 use borrow.Author.Tests.{ltb-true, leb-true, lt-ltb, le-leb}
+use Rattle.std.specs.Prelude.{Option, Some, None}
 use Rattle.chip.proofs.Image.{both}
 use Rattle.format.specs.declared.Record.{Record}
 use Rattle.format.specs.declared.Removal.{Removal}
@@ -16,7 +17,6 @@ use Rattle.plans.specs.declared.Aim.{Aim}
 use Rattle.plans.specs.declared.Lent.{Lent}
 use Rattle.plans.specs.declared.Edit.{Edit}
 use Rattle.plans.specs.declared.Edits.{Edits}
-use Rattle.plans.specs.declared.First.{First}
 use Rattle.plans.specs.declared.Then.{Then}
 use Rattle.plans.specs.declared.Plan.{Plan}
 use Rattle.plans.specs.Writes.{value_lent, in_region, start_of, size_of, first, rest, ends, look}
@@ -65,9 +65,9 @@ module _ (s n len : ℕ) where
   edit_facts (Edit.Kill Removal.Zeroise r x) h = let (a, b, c, d) = in_chip s n r x h in (a, omega (arith, d))
   edit_facts (Edit.Erase r) h = (ltb-true r n h, omega arith)
 
-  abbrev first_fits : First → Bool
-  first_fits First.Nothing = true
-  first_fits (First.Do e) = edit_fits s n len e
+  abbrev first_fits : Option Edit → Bool
+  first_fits None = true
+  first_fits (Some e) = edit_fits s n len e
 
   first_fits_lem : (es : Edits) → edits_fit s n len es ≡ true → first_fits (first es) ≡ true
   first_fits_lem Edits.Nil h = refl
@@ -76,7 +76,7 @@ module _ (s n len : ℕ) where
   first_fits_lem (Edits.Three e f g) h = (both (edit_fits s n len e) _ h).0
   first_fits_lem (Edits.Erases i m) h = go (ltb i m) refl
     where
-      go : (b : Bool) → ltb i m ≡ b → first_fits (cond b (First.Do (Edit.Erase i)) First.Nothing) ≡ true
+      go : (b : Bool) → ltb i m ≡ b → first_fits (cond b (Some (Edit.Erase i)) None) ≡ true
       go true e = lt-ltb i n (omega (arith, ltb-true i m e, leb-true m n h))
       go false e = refl
 
@@ -92,8 +92,8 @@ module _ (s n len : ℕ) where
       go false = refl
 
   -- one edit at a time
-  pub edits_facts : (es : Edits) {e : Edit} → edits_fit s n len es ≡ true → first es ≡ First.Do e → (edit_fits s n len e ≡ true) × (edits_fit s n len (rest es) ≡ true)
-  edits_facts es h e = (subst (λ (f : First). first_fits f ≡ true) e (first_fits_lem es h), rest_fits es h)
+  pub edits_facts : (es : Edits) {e : Edit} → edits_fit s n len es ≡ true → first es ≡ Some e → (edit_fits s n len e ≡ true) × (edits_fit s n len (rest es) ≡ true)
+  edits_facts es h e = (subst (λ (f : Option Edit). first_fits f ≡ true) e (first_fits_lem es h), rest_fits es h)
 
 -- A plan: the facts of its test.
 
@@ -126,18 +126,18 @@ module _ (s n : ℕ) (lent : Lent) where
   sweep_facts r k h = let (a, b) = both (ltb r n) (leb k r) h in (ltb-true r n a, leb-true k r b)
 
   -- An edit is done: what is left of a plan that fits does. No refusal follows a write, whatever is left before it.
-  pub rest_of : (p : Plan) {e : Edit} → PlanFits s n lent p → first p.edits ≡ First.Do e → PlanFits s n lent (record { edits = rest p.edits; next = p.next })
+  pub rest_of : (p : Plan) {e : Edit} → PlanFits s n lent p → first p.edits ≡ Some e → PlanFits s n lent (record { edits = rest p.edits; next = p.next })
   rest_of p {e} f h =
       record {
         value_short_lem = f.value_short_lem;
         edits_good = rest_fits s n (value_lent lent) p.edits f.edits_good;
         next_good = f.next_good;
-        at_rest = go p.next (first (rest p.edits)) (subst (λ (q : First). rests q p.next ≡ true) h f.at_rest);
+        at_rest = go p.next (first (rest p.edits)) (subst (λ (q : Option Edit). rests q p.next ≡ true) h f.at_rest);
       }
     where
-      go : (t : Then) (q : First) → rests (First.Do e) t ≡ true → rests q t ≡ true
-      go (Then.Ends answer) First.Nothing h = refl
-      go (Then.Ends answer) (First.Do d) h = h
+      go : (t : Then) (q : Option Edit) → rests (Some e) t ≡ true → rests q t ≡ true
+      go (Then.Ends answer) None h = refl
+      go (Then.Ends answer) (Some d) h = h
       go (Then.Seek aim i seen) q h = refl
       go (Then.Sweep r k) q h = refl
       go (Then.Gives r x again) q h = h

@@ -1,5 +1,5 @@
 -- Whether a plan lies in a chip of n regions of s bytes, and is one for what is lent: the tests of the written rule.
-use Rattle.std.specs.Prelude.{ℕ, ◌-◌, Bool, true, false, ◌&&◌, ltb, leb, eqb}
+use Rattle.std.specs.Prelude.{ℕ, ◌-◌, Bool, true, false, ◌&&◌, ltb, leb, eqb, Option, Some, None}
 use Rattle.format.specs.declared.Record.{Record}
 use Rattle.format.specs.Layout.{edition, least_length, most_length, largest_value, record_length}
 use Rattle.lookup.specs.declared.Room.{Room}
@@ -9,7 +9,6 @@ use Rattle.plans.specs.declared.Aim.{Aim}
 use Rattle.plans.specs.declared.Lent.{Lent}
 use Rattle.plans.specs.declared.Edit.{Edit}
 use Rattle.plans.specs.declared.Edits.{Edits}
-use Rattle.plans.specs.declared.First.{First}
 use Rattle.plans.specs.declared.Then.{Then}
 use Rattle.plans.specs.declared.Plan.{Plan}
 use Rattle.plans.specs.Answers.{refusal}
@@ -42,9 +41,9 @@ edits_fit s n len (Edits.Three e f g) = edit_fits s n len e && (edit_fits s n le
 edits_fit s n len (Edits.Erases i m) = leb m n
 
 -- R8.10: the room that was gathered lies in a region below N and is long enough.
-abbrev pub room_fits : ℕ → ℕ → ℕ → Room → Bool
-room_fits s n len Room.Nowhere = true
-room_fits s n len (Room.At r o blank) = place_fits s n len r o
+abbrev pub room_fits : ℕ → ℕ → ℕ → Option Room → Bool
+room_fits s n len None = true
+room_fits s n len (Some room) = place_fits s n len room.region room.at
 
 -- R8.10: the same of all that was gathered.
 abbrev pub seen_fits : ℕ → ℕ → ℕ → Seen → Bool
@@ -90,12 +89,12 @@ then_fits s n lent (Then.Sweep r k) = ltb r n && leb k r
 then_fits s n lent (Then.Gives r x anew) = ltb r n && record_fits s x
 
 -- R8.10: no refusal stands behind a write or an erase.
-abbrev pub answer_rests : First → Answer → Bool
-answer_rests First.Nothing answer = true
-answer_rests (First.Do e) answer = eqb (refusal answer) 0
+abbrev pub answer_rests : Option Edit → Answer → Bool
+answer_rests None answer = true
+answer_rests (Some e) answer = eqb (refusal answer) 0
 
 -- R8.10: where an operation may rest: with no refusal behind an edit, and not before a value is given, which the step does that comes to it.
-abbrev pub rests : First → Then → Bool
+abbrev pub rests : Option Edit → Then → Bool
 rests f (Then.Ends answer) = answer_rests f answer
 rests f (Then.Seek aim i seen) = true
 rests f (Then.Sweep r k) = true

@@ -1,5 +1,5 @@
 -- What is lent to an operation; edits: what one writes or erases, and a list of them; a plan that has none.
-use Rattle.std.specs.Prelude.{ℕ, ◌+◌, ◌-◌, ◌*◌, cond, List, [], ◌∷◌, map, ltb}
+use Rattle.std.specs.Prelude.{ℕ, ◌+◌, ◌-◌, ◌*◌, cond, List, [], ◌∷◌, map, ltb, Option, Some, None}
 use Rattle.std.proofs.lemmas.List.Edits.{sets}
 use Rattle.chip.specs.Chip.{written}
 use Rattle.chip.specs.Geometry.{erase_region, numbers}
@@ -11,7 +11,6 @@ use Rattle.plans.specs.declared.Aim.{Aim}
 use Rattle.plans.specs.declared.Lent.{Lent}
 use Rattle.plans.specs.declared.Edit.{Edit}
 use Rattle.plans.specs.declared.Edits.{Edits}
-use Rattle.plans.specs.declared.First.{First}
 use Rattle.plans.specs.declared.Then.{Then}
 use Rattle.plans.specs.declared.Plan.{Plan}
 
@@ -91,12 +90,12 @@ applied s key value [] image = image
 applied s key value (e ∷ es) image = applied s key value es (edited s key value e image)
 
 -- R9.7: what is left is done one after the other: the first of it, which comes next. In a run of erases with none left there is none (R8.10).
-abbrev pub first : Edits → First
-first Edits.Nil = First.Nothing
-first (Edits.One e) = First.Do e
-first (Edits.Two e f) = First.Do e
-first (Edits.Three e f g) = First.Do e
-first (Edits.Erases i m) = cond (ltb i m) (First.Do (Edit.Erase i)) First.Nothing
+abbrev pub first : Edits → Option Edit
+first Edits.Nil = None
+first (Edits.One e) = Some e
+first (Edits.Two e f) = Some e
+first (Edits.Three e f g) = Some e
+first (Edits.Erases i m) = cond (ltb i m) (Some (Edit.Erase i)) None
 
 -- R9.7: what is left is done one after the other: the others, which are left once the first is done
 abbrev pub rest : Edits → Edits

@@ -97,13 +97,6 @@ pub enum Edits {
     Erases { from: usize, to: usize },
 }
 
-// R9.7: the first edit that is left, if any.
-#[derive(Clone, Copy)]
-pub enum First {
-    Nothing,
-    Do(Edit),
-}
-
 // R8.10: what comes behind a plan's edits.
 #[derive(Clone, Copy)]
 pub enum Then {

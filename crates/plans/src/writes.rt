@@ -2,23 +2,21 @@
 ghost use Rattle.std.specs.Prelude.{◌≡◌};
 ghost use Rattle.plans.specs.Writes.{first, rest, ends, refuses};
 
-use crate::{Answer, Edit, Edits, First, Plan, Then};
+use crate::{Answer, Edit, Edits, Plan, Then};
 use refusals::Refusal;
 
-// The first edit that is left to do.
-pub fn first_of(edits: Edits) -> First
+// R9.7: the first edit that is left to do, if any.
+pub fn first_of(edits: Edits) -> Option<Edit>
     ensures { result ≡ first edits }
 {
     match edits {
-        Edits::Nil => First::Nothing,
-        Edits::One(e) => First::Do(e),
-        Edits::Two(e, _) => First::Do(e),
-        Edits::Three(e, _, _) => First::Do(e),
+        Edits::Nil => None,
+        Edits::One(e) | Edits::Two(e, _) | Edits::Three(e, _, _) => Some(e),
         Edits::Erases { from, to } => {
             if from < to {
-                First::Do(Edit::Erase { region: from })
+                Some(Edit::Erase { region: from })
             } else {
-                First::Nothing
+                None
             }
         }
     }
@@ -29,8 +27,7 @@ pub fn rest_of(edits: Edits) -> Edits
     ensures { result ≡ rest edits }
 {
     match edits {
-        Edits::Nil => Edits::Nil,
-        Edits::One(_) => Edits::Nil,
+        Edits::Nil | Edits::One(_) => Edits::Nil,
         Edits::Two(_, f) => Edits::One(f),
         Edits::Three(_, f, g) => Edits::Two(f, g),
         Edits::Erases { from, to } => {

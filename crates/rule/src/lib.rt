@@ -5,80 +5,28 @@
 ghost use Rattle.std.specs.Prelude.{◌≡◌};
 ghost use Rattle.running.specs.Waits.{wait_of};
 ghost use Rattle.running.specs.Ruled.{fresh_fits};
-ghost use Rattle.rule.specs.Rule.{rule, begins, serves, reply_fits, buffers_fit, call_fits};
+ghost use Rattle.rule.specs.Rule.{rule, reply_fits, buffers_fit, call_fits};
 
-use plans::{First, Lent, Then};
+use plans::{Edit, Lent, Then};
 use running::{Op, Reply};
 
 // R8.10: the rule as a test on the operation alone.
+#[tactic(auto, unfolding(crate::specs::Rule::rule))]
 pub fn keeps_rule(op: Op) -> bool
     ensures { result ≡ rule op }
 {
-    let lent = op.lent;
     let plan = op.plan;
-    if !chip::is_sized(op.s, op.n) {
-        return false;
-    }
-    if !probe::allowed_key(op.key) {
-        return false;
-    }
-    let edits = plan.edits;
-    let next = plan.next;
-    if !fresh_fits(op.fresh, plans::first_of(edits), next) {
-        return false;
-    }
-    plans::plan_fits(op.s, op.n, lent, plan)
+    chip::is_sized(op.s, op.n)
+        && probe::allowed_key(op.key)
+        && fresh_fits(op.fresh, plans::first_of(plan.edits), plan.next)
+        && plans::plan_fits(op.s, op.n, op.lent, plan)
 }
 
 // A fresh operation has a service to ask for.
-fn fresh_fits(fresh: bool, first: First, next: Then) -> bool
+fn fresh_fits(fresh: bool, first: Option<Edit>, next: Then) -> bool
     ensures { result ≡ fresh_fits fresh first next }
 {
-    if !fresh {
-        return true;
-    }
-    if let First::Do(_) = first {
-        return true;
-    }
-    match next {
-        Then::Ends(_) => false,
-        Then::Seek {
-            aim: _,
-            i: _,
-            seen: _,
-        } => true,
-        Then::Sweep {
-            region: _,
-            erased: _,
-        } => true,
-        Then::Gives {
-            region: _,
-            rec: _,
-            anew: _,
-        } => true,
-    }
-}
-
-fn is_begin(reply: Reply) -> bool
-    ensures { result ≡ begins reply }
-{
-    match reply {
-        Reply::Begin => true,
-        Reply::Done => false,
-        Reply::NotReady => false,
-        Reply::Failed => false,
-    }
-}
-
-fn is_service(reply: Reply) -> bool
-    ensures { result ≡ serves reply }
-{
-    match reply {
-        Reply::Begin => false,
-        Reply::Done => true,
-        Reply::NotReady => true,
-        Reply::Failed => true,
-    }
+    !fresh || first.is_some() || !matches!(next, Then::Ends(_))
 }
 
 // Whether a reply may come to what an operation waits for: to a service whichever it is, so that the region it reads is not worked out here.
@@ -86,31 +34,13 @@ fn reply_fits(op: Op, reply: Reply) -> bool
     ensures { result ≡ reply_fits (wait_of op) reply }
 {
     let plan = op.plan;
-    let edits = plan.edits;
-    let next = plan.next;
-    if op.fresh {
-        return is_begin(reply);
-    }
-    let first = plans::first_of(edits);
-    if let First::Do(_) = first {
-        return is_service(reply);
-    }
-    match next {
-        Then::Ends(_)
-        | Then::Gives {
-            region: _,
-            rec: _,
-            anew: _,
-        } => false,
-        Then::Seek {
-            aim: _,
-            i: _,
-            seen: _,
+    match reply {
+        Reply::Begin => op.fresh,
+        Reply::Done | Reply::NotReady | Reply::Failed => {
+            !op.fresh
+                && (plans::first_of(plan.edits).is_some()
+                    || matches!(plan.next, Then::Seek { .. } | Then::Sweep { .. }))
         }
-        | Then::Sweep {
-            region: _,
-            erased: _,
-        } => is_service(reply),
     }
 }
 
@@ -125,18 +55,9 @@ fn buffers_fit(lent: Lent, value: usize, buffer: usize) -> bool
 }
 
 // R6.11: whether a step may be taken with this reply and with buffers of these lengths. Where not, the answer is BadCall.
+#[tactic(auto, unfolding(crate::specs::Rule::call_fits))]
 pub fn call_fits(op: Op, reply: Reply, region: usize, value: usize, buffer: usize) -> bool
     ensures { result ≡ call_fits op reply region value buffer }
 {
-    let lent = op.lent;
-    if !keeps_rule(op) {
-        return false;
-    }
-    if region != op.s {
-        return false;
-    }
-    if !buffers_fit(lent, value, buffer) {
-        return false;
-    }
-    reply_fits(op, reply)
+    keeps_rule(op) && region == op.s && buffers_fit(op.lent, value, buffer) && reply_fits(op, reply)
 }

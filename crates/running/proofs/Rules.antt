@@ -6,14 +6,13 @@ use mathlib.Core.Path.{◌≡◌, refl, subst}
 use mathlib.Core.Bool.{Bool, true, false, not, cond}
 use lib.Dec.{ltb}
 use borrow.Author.Tests.{ltb-false, lt-ltb, le-leb}
-use Rattle.std.specs.Prelude.{Result, Ok, Err}
+use Rattle.std.specs.Prelude.{Result, Ok, Err, Option, Some, None}
 use Rattle.chip.specs.Geometry.{Shape, sized}
 use Rattle.chip.proofs.Image.{sized_shape}
 use Rattle.probe.specs.Probe.{allowed_key}
 use Rattle.refusals.specs.declared.Refusal.{Refusal}
 use Rattle.plans.specs.declared.Aim.{Aim}
 use Rattle.plans.specs.declared.Lent.{Lent}
-use Rattle.plans.specs.declared.First.{First}
 use Rattle.plans.specs.declared.Then.{Then}
 use Rattle.plans.specs.Writes.{value_lent, follows, look}
 use Rattle.plans.specs.Fits.{lent_for, then_fits, rests}
@@ -42,7 +41,7 @@ start_fine s n key len h = go (sized s n) refl (allowed_key key) refl (ltb 4079 
     go false p b q c t h = absurd (let z : ◌≡◌ {A = ℕ} 0 1 = cc in omega arith)
 
 -- An operation that is handed out keeps the rule, where what it begins with fits.
-start_ruled : (s n key : ℕ) (lent : Lent) (next : Then) {op : Op} → (1 ≤ n → then_fits s n lent next ≡ true) → rests First.Nothing next ≡ true → fresh_fits true First.Nothing next ≡ true
+start_ruled : (s n key : ℕ) (lent : Lent) (next : Then) {op : Op} → (1 ≤ n → then_fits s n lent next ≡ true) → rests None next ≡ true → fresh_fits true None next ≡ true
     → started_or (started s n key lent (follows next)) (start_refusal s n key (value_lent lent)) ≡ Ok op → Ruled op
 start_ruled s n key lent next {op} fits calm asks h = go (start_refusal s n key (value_lent lent)) refl h
   where

@@ -1,10 +1,9 @@
 -- What an operation waits for, computed from what is left of its plan, and the request that it makes of the host.
-use Rattle.std.specs.Prelude.{ℕ, ◌+◌, ◌*◌, false, cond, get_or}
+use Rattle.std.specs.Prelude.{ℕ, ◌+◌, ◌*◌, false, cond, get_or, Option, Some, None}
 use Rattle.probe.specs.Probe.{probes}
 use Rattle.refusals.specs.declared.Refusal.{Refusal}
 use Rattle.plans.specs.declared.Answer.TheVariants.{Refused}
 use Rattle.plans.specs.declared.Edit.{Edit}
-use Rattle.plans.specs.declared.First.{First}
 use Rattle.plans.specs.declared.Then.{Then}
 use Rattle.plans.specs.declared.Plan.{Plan}
 use Rattle.plans.specs.Writes.{value_lent, in_region, start_of, size_of, first}
@@ -25,9 +24,9 @@ wait_next key n (Then.Sweep r k) = Wait.Read r
 wait_next key n (Then.Gives r x anew) = Wait.Over (Refused Refusal.BadCall)
 
 -- R8.4: one service at a time: what is left to write or erase comes before what follows.
-abbrev pub wait_first : ℕ → ℕ → First → Then → Wait
-wait_first key n (First.Do e) next = Wait.Edit e
-wait_first key n First.Nothing next = wait_next key n next
+abbrev pub wait_first : ℕ → ℕ → Option Edit → Then → Wait
+wait_first key n (Some e) next = Wait.Edit e
+wait_first key n None next = wait_next key n next
 
 -- R8.5: a fresh operation waits for "begin", any other for its next service, or for nothing more.
 abbrev pub wait_of : Op → Wait

@@ -8,7 +8,7 @@ ghost use Rattle.running.specs.Waits.{wait_of, request_edit, request_of};
 
 use crate::{Request, RuledOp, Wait};
 use format::{Record, Removal};
-use plans::{Answer, Edit, First, Then};
+use plans::{Answer, Edit, Then};
 use refusals::Refusal;
 
 // R8.4, R8.5: what an operation waits for. The rule lets none wait before a value that is to be given: BadCall does not come.
@@ -23,8 +23,7 @@ pub fn wait_of(ruled: RuledOp) -> Wait
     if op.fresh {
         return Wait::Begin;
     }
-    let first = plans::first_of(edits);
-    if let First::Do(edit) = first {
+    if let Some(edit) = plans::first_of(edits) {
         return Wait::Edit(edit);
     }
     match next {

@@ -3,9 +3,10 @@
 use Prim.Native.Nat.{ℕ, zero, suc, ◌+◌, ◌*◌}
 use native.Mathlib.Nat.{add-zero, sub-zero}
 use mathlib.Core.Path.{◌≡◌, refl, ◌∙◌, ap}
-use mathlib.Core.Bool.{true, false}
 use mathlib.Core.List.{List, [], ◌∷◌, map}
 use mathlib.Core.Logic.{◌⊎◌, inl, inr}
+use Rattle.lookup.proofs.Scan.{room_cases}
+use Rattle.std.specs.Prelude.{Option}
 use Rattle.chip.specs.Geometry.{numbers}
 use Rattle.format.specs.declared.Record.{Record}
 use Rattle.format.specs.declared.Removal.{Removal}
@@ -28,10 +29,13 @@ append_asks s len (Looked.Live r x) = inl refl
 append_asks s len (Looked.Bad f p) = inl refl
 append_asks s len (Looked.Through seen) = by_place (λ (p : Plan). (edits s len p ≡ []) ⊎ ((r : ℕ) × (o : ℕ) × (edits s len p ≡ Request.Write o (o + record_length len) (r * s + o) ∷ []))) go seen
   where
-    go : (place : Room) → (edits s len (place_plan place) ≡ []) ⊎ ((r : ℕ) × (o : ℕ) × (edits s len (place_plan place) ≡ Request.Write o (o + record_length len) (r * s + o) ∷ []))
-    go Room.Nowhere = inl refl
-    go (Room.At r o false) = inl refl
-    go (Room.At r o true) = inr (r, o, refl)
+    go : (place : Option Room) → (edits s len (place_plan place) ≡ []) ⊎ ((r : ℕ) × (o : ℕ) × (edits s len (place_plan place) ≡ Request.Write o (o + record_length len) (r * s + o) ∷ []))
+    go =
+        room_cases
+        (λ place. (edits s len (place_plan place) ≡ []) ⊎ ((r : ℕ) × (o : ℕ) × (edits s len (place_plan place) ≡ Request.Write o (o + record_length len) (r * s + o) ∷ [])))
+        (inl refl)
+        (λ r o. inl refl)
+        (λ r o. inr (r, o, refl))
 
 -- R9.3: invalidate's one write, of byte 1 of the record.
 pub invalidate_asks : (s r : ℕ) (x : Record)

@@ -7,7 +7,10 @@ use mathlib.Core.Path.{◌≡◌, refl}
 use mathlib.Core.Bool.{Bool, true, false, cond}
 use mathlib.Core.List.{List, [], ◌∷◌, ◌++◌, map}
 use lib.ListN.{length, length-append, length-map}
-use Rattle.std.specs.Prelude.{Result, Ok, Err}
+use Rattle.std.specs.declared.ops.ControlFlow.TheVariants.{Break, Continue}
+use Rattle.std.specs.declared.ops.ControlFlow.{ControlFlow}
+use Rattle.std.specs.Prelude.{Result, Ok, Err, Option, Some, None}
+use Rattle.lookup.proofs.Scan.{room_cases}
 use Rattle.chip.specs.Chip.{erased}
 use Rattle.chip.specs.Geometry.{geometry, Fits, region_of, erase_region, numbers}
 use Rattle.chip.proofs.Image.{geometry_fits}
@@ -15,11 +18,9 @@ use Rattle.probe.specs.Probe.{probes}
 use Rattle.probe.proofs.Theorems.{probes-length}
 use Rattle.format.specs.declared.Removal.{Removal}
 use Rattle.format.specs.Layout.{record_length}
-use Rattle.lookup.specs.declared.Need.{Need}
 use Rattle.lookup.specs.declared.Room.{Room}
 use Rattle.lookup.specs.declared.Seen.{Seen}
 use Rattle.lookup.specs.declared.Looked.{Looked}
-use Rattle.lookup.specs.declared.Turn.{Turn}
 use Rattle.refusals.specs.Refusals.{refusal_under, first_refusal}
 use Rattle.lookup.specs.Turns.{turn_of, on_turn, lookup_in, read_from, regions_read, hit_by}
 use Rattle.lookup.specs.Gather.{unseen}
@@ -40,15 +41,15 @@ use Rattle.stepwise.proofs.Falls.{numbers-length}
 use Rattle.runs.specs.Services.{unless_refused, edits, collect_services, anew_services, services}
 use Rattle.refusals.specs.declared.Refusal.{Refusal}
 
-read_bound : (seen : Seen) (key : ℕ) (need : Need) (s : ℕ) (image rs : List ℕ) → length (read_from seen key need s image rs) ≤ length rs
+read_bound : (seen : Seen) (key : ℕ) (need : Option ℕ) (s : ℕ) (image rs : List ℕ) → length (read_from seen key need s image rs) ≤ length rs
 unfolding read_from
 read_bound seen key need s image [] = omega arith
 read_bound seen key need s image (r ∷ rs) = go (turn_of seen key need r (region_of s image r)) (λ more. read_bound more key need s image rs)
   where
-    go : (t : Turn) → ((more : Seen) → length (read_from more key need s image rs) ≤ length rs)
+    go : (t : ControlFlow Looked Seen) → ((more : Seen) → length (read_from more key need s image rs) ≤ length rs)
         → suc (length (on_turn t (λ looked. []) (λ more. read_from more key need s image rs))) ≤ suc (length rs)
-    go (Turn.Stop looked) h = omega arith
-    go (Turn.More more) h = omega (arith, h more)
+    go (Break looked) h = omega arith
+    go (Continue more) h = omega (arith, h more)
 
 collect_bound : (s : ℕ) (image rs : List ℕ) → length (collect_services s image rs) ≤ 2 * length rs
 unfolding collect_services
@@ -62,10 +63,13 @@ collect_bound s image (r ∷ rs) = go (verdict r (region_of s image r)) refl (co
     go (Verdict.Bad f o) e a b = rw (collect_services, e) (omega arith)
 
 -- R9.2, R9.3: then one write: the edits of a plan of append's, and of a removal's
-place_one : (place : Room) → length (listed (place_plan place).edits) ≤ 1
-place_one Room.Nowhere = omega arith
-place_one (Room.At r o false) = omega arith
-place_one (Room.At r o true) = omega arith
+place_one : (place : Option Room) → length (listed (place_plan place).edits) ≤ 1
+place_one =
+    room_cases
+    (λ place. length (listed (place_plan place).edits) ≤ 1)
+    (omega arith)
+    (λ r o. omega arith)
+    (λ r o. omega arith)
 
 append_one : (looked : Looked) → length (listed (append_plan looked).edits) ≤ 1
 append_one (Looked.Live r x) = omega arith
@@ -78,20 +82,20 @@ remove_one how (Looked.Bad f p) = omega arith
 remove_one how (Looked.Through seen) = omega arith
 
 -- what append's lookup is for
-abbrev room_for : ℕ → Need
-room_for len = Need.Room (record_length len)
+abbrev room_for : ℕ → Option ℕ
+room_for len = Some (record_length len)
 
 module _ (key s n : ℕ) (z : 1 ≤ n) where
   -- the reads of a lookup, whatever it is for
-  abbrev reads_for : Need → List ℕ → List Request
+  abbrev reads_for : Option ℕ → List ℕ → List Request
   reads_for need image = map Request.Read (regions_read key need s image (probes key n))
 
-  reads_bound : (need : Need) (image : List ℕ) → length (reads_for need image) ≤ n
+  reads_bound : (need : Option ℕ) (image : List ℕ) → length (reads_for need image) ≤ n
   reads_bound need image =
       omega (arith, length-map (regions_read key need s image (probes key n)) Request.Read, read_bound unseen key need s image (probes key n), probes-length key n z)
 
   -- and a plan that has one edit at most
-  one_bound : (need : Need) (len : ℕ) (image : List ℕ) (p : Plan) → length (listed p.edits) ≤ 1 → length (reads_for need image ++ edits s len p) ≤ n + 1
+  one_bound : (need : Option ℕ) (len : ℕ) (image : List ℕ) (p : Plan) → length (listed p.edits) ≤ 1 → length (reads_for need image ++ edits s len p) ≤ n + 1
   one_bound need len image p one =
       let all = length-append (reads_for need image) (edits s len p) in
       omega (arith, all, reads_bound need image, length-map (listed p.edits) (request_edit s len), one)
@@ -129,14 +133,14 @@ unless_bound image s n key len m asked h = go (first_refusal image s n key len) 
 
 pub bound : (c : Call) (image : List ℕ) (s n : ℕ) → length (services c image s n) ≤ most c n
 unfolding services
-bound (get key buffer) image s n = unless_bound image s n key 0 n _ (λ z. reads_bound key s n z Need.Nothing image)
+bound (get key buffer) image s n = unless_bound image s n key 0 n _ (λ z. reads_bound key s n z None image)
 bound (append key value) image s n = unless_bound image s n key (length value) (n + 1) _ (λ z. append_bound key s n z (length value) image)
 bound (remove how key) image s n =
     unless_bound image s n key 0 (n + 1) _
-    (λ z. one_bound key s n z Need.Nothing 0 image (remove_plan how (hit_by looked)) (remove_one how looked))
+    (λ z. one_bound key s n z None 0 image (remove_plan how (hit_by looked)) (remove_one how looked))
   where
     looked : Looked
-    looked = lookup_in key Need.Nothing s image (probes key n)
+    looked = lookup_in key None s image (probes key n)
 bound collect image s n = go (geometry image s n)
   where
     go : (t : Bool) → length (cond t (collect_services s image (numbers 0 n)) []) ≤ 2 * n
@@ -144,7 +148,7 @@ bound collect image s n = go (geometry image s n)
     go false = omega arith
 bound (initialise key) image s n =
     unless_bound image s n key 0 (3 * n + 1) _
-    (λ z. simp length-append (omega (arith, reads_bound key s n z Need.Nothing image, go z (starts_anew (get_of image s n key []).answer))))
+    (λ z. simp length-append (omega (arith, reads_bound key s n z None image, go z (starts_anew (get_of image s n key []).answer))))
   where
     go : 1 ≤ n → (t : Bool) → length (cond t (anew_services key s n) []) ≤ 2 * n + 1
     go z true = anew_bound key s n z

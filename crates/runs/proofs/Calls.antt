@@ -9,7 +9,8 @@ use mathlib.Core.List.{List, [], ◌++◌, map, append-nil}
 use lib.Dec.{eqb}
 use lib.ListN.{length, take}
 use borrow.Author.Tests.{eq-eqb}
-use Rattle.std.specs.Prelude.{Result, Ok}
+use Rattle.lookup.proofs.Scan.{room_cases}
+use Rattle.std.specs.Prelude.{Result, Ok, Option, None}
 use Rattle.chip.specs.Chip.{erased}
 use Rattle.chip.specs.Every.{Every}
 use Rattle.chip.specs.Geometry.{sized, geometry, Fits, region_of, erase_region, numbers}
@@ -19,7 +20,6 @@ use Rattle.format.specs.declared.Removal.{Removal}
 use Rattle.format.specs.declared.Fault.{Fault}
 use Rattle.format.specs.Layout.{record_bytes}
 use Rattle.refusals.specs.declared.Refusal.{Refusal}
-use Rattle.lookup.specs.declared.Need.{Need}
 use Rattle.lookup.specs.declared.Room.{Room}
 use Rattle.lookup.specs.declared.Looked.{Looked}
 use Rattle.lookup.specs.declared.Hit.{Hit}
@@ -30,7 +30,6 @@ use Rattle.plans.specs.declared.Aim.{Aim}
 use Rattle.plans.specs.declared.Lent.{Lent}
 use Rattle.plans.specs.declared.Edit.{Edit}
 use Rattle.plans.specs.declared.Edits.{Edits}
-use Rattle.plans.specs.declared.First.{First}
 use Rattle.plans.specs.declared.Then.{Then}
 use Rattle.plans.specs.declared.Plan.{Plan}
 use Rattle.plans.specs.Answers.{starts_anew}
@@ -79,15 +78,18 @@ module _ (s n key : ℕ) (lent : Lent) (value bytes : List ℕ) (least : 1 ≤ n
       closing r looked e near =
           let p : Plan = plan aim n looked in
           let region : List ℕ = region_of s image r in
-          let calm : rests First.Nothing p.next ≡ true = rw (answers looked) in
+          let calm : rests None p.next ≡ true = rw (answers looked) in
           subst (Carried r looked) (sym e)
-          (rw (given_rests n lent region First.Nothing p calm, filled_rests n lent region First.Nothing p calm buffer) (carries s n key lent value bytes p image buffer (serving looked e) (answers looked)))
+          (rw (given_rests n lent region None p calm, filled_rests n lent region None p calm buffer) (carries s n key lent value bytes p image buffer (serving looked e) (answers looked)))
 
 -- append's plans and the removals'
-place_answers : (place : Room) → Answers (place_plan place)
-place_answers Room.Nowhere = refl
-place_answers (Room.At r o false) = refl
-place_answers (Room.At r o true) = refl
+place_answers : (place : Option Room) → Answers (place_plan place)
+place_answers =
+    room_cases
+    (λ place. Answers (place_plan place))
+    refl
+    (λ r o. refl)
+    (λ r o. refl)
 
 append_answers : (looked : Looked) → Answers (append_plan looked)
 append_answers (Looked.Live r x) = refl
@@ -101,10 +103,13 @@ remove_answers how (Looked.Through seen) = refl
 
 -- The bytes of their writes are those of the call, or of the record that was found; an erase has none.
 module _ (s n key : ℕ) (lent : Lent) (value : List ℕ) where
-  place_serves : (place : Room) → All_serve s n key lent value (record_bytes key (own s n key lent value)) (listed (place_plan place).edits)
-  place_serves Room.Nowhere = Every.none
-  place_serves (Room.At r o false) = Every.none
-  place_serves (Room.At r o true) = Every.also (λ image. refl) Every.none
+  place_serves : (place : Option Room) → All_serve s n key lent value (record_bytes key (own s n key lent value)) (listed (place_plan place).edits)
+  place_serves =
+      room_cases
+      (λ place. All_serve s n key lent value (record_bytes key (own s n key lent value)) (listed (place_plan place).edits))
+      Every.none
+      (λ r o. Every.none)
+      (λ r o. Every.also (λ image. refl) Every.none)
 
   append_serves : (looked : Looked) → All_serve s n key lent value (record_bytes key (own s n key lent value)) (listed (append_plan looked).edits)
   append_serves (Looked.Live r x) = Every.none
@@ -135,11 +140,11 @@ first_fine {image} {s} {n} key len f h = first_same image s n key len f.size ∙
 
 -- What the lookup's end is to get, the removals and initialise.
 module _ (image : List ℕ) (s n key : ℕ) (fine : first_refusal image s n key 0 ≡ Ok tt) where
-  hit_is : hit_by (lookup_in key Need.Nothing s image (probes key n)) ≡ hit_of image s n key
+  hit_is : hit_by (lookup_in key None s image (probes key n)) ≡ hit_of image s n key
   unfolding hit_of
   hit_is = ap (hit_after image s n key) (sym fine)
 
-  got_is : (buffer : List ℕ) {looked : Looked} → lookup_in key Need.Nothing s image (probes key n) ≡ looked → got_by s image buffer (hit_by looked) ≡ get_of image s n key buffer
+  got_is : (buffer : List ℕ) {looked : Looked} → lookup_in key None s image (probes key n) ≡ looked → got_by s image buffer (hit_by looked) ≡ get_of image s n key buffer
   unfolding get_of
   got_is buffer e = ap (got_by s image buffer) (ap hit_by (sym e) ∙ hit_is)
 

@@ -7,11 +7,11 @@ use mathlib.Core.Path.{◌≡◌, refl, sym, ◌∙◌, ap, subst}
 use mathlib.Core.Bool.{Bool, true, false}
 use mathlib.Core.List.{List, [], ◌∷◌}
 use lib.ListN.{length, take, replicate}
+use Rattle.std.specs.Prelude.{Option, Some}
 use Rattle.chip.specs.Geometry.{region_of}
 use Rattle.plans.specs.declared.Answer.{Answer}
 use Rattle.plans.specs.declared.Lent.{Lent}
 use Rattle.plans.specs.declared.Edit.{Edit}
-use Rattle.plans.specs.declared.First.{First}
 use Rattle.plans.specs.declared.Plan.{Plan}
 use Rattle.plans.specs.Writes.{value_lent, edited, first}
 use Rattle.running.specs.declared.Reply.{Reply}
@@ -58,7 +58,7 @@ module _ (s n key : ℕ) (lent : Lent) (value : List ℕ) (bytes : List ℕ) whe
   -- with this left of its plan, on this image and this buffer, by these services
   pub data Comes : Plan → List ℕ → List ℕ → List Request → Out → Type 0 where
     over : {p : Plan} {image buffer : List ℕ} {a : Answer} → wait_of (op_at s n key lent value p) ≡ Wait.Over a → Comes p image buffer [] (out a image buffer)
-    edit : {p : Plan} {image buffer : List ℕ} {rs : List Request} {o : Out} {e : Edit} → first p.edits ≡ First.Do e → Serves e
+    edit : {p : Plan} {image buffer : List ℕ} {rs : List Request} {o : Out} {e : Edit} → first p.edits ≡ Some e → Serves e
         → Comes (left p) (edited s key (own s n key lent value) e image) buffer rs o → Comes p image buffer (request_edit s (value_lent lent) e ∷ rs) o
     read : {p : Plan} {image buffer : List ℕ} {rs : List Request} {o : Out} {r : ℕ} → wait_of (op_at s n key lent value p) ≡ Wait.Read r
         → Comes (next_plan (op_at s n key lent value p) Reply.Done (region_of s image r)) image
@@ -100,8 +100,8 @@ module _ (s n key : ℕ) (lent : Lent) (value : List ℕ) (bytes : List ℕ) whe
   unfolding drive
   wait_beat under_way beats c g w = rw (w, wait_law s n key lent value under_way c g w)
 
-  edit_asks : (c : Conf) (e : Edit) → first c.plan.edits ≡ First.Do e → asked c ≡ request_edit s (value_lent lent) e
-  edit_asks c e h = ap (λ (f : First). request_for s (value_lent lent) (wait_first key n f c.plan.next)) h
+  edit_asks : (c : Conf) (e : Edit) → first c.plan.edits ≡ Some e → asked c ≡ request_edit s (value_lent lent) e
+  edit_asks c e h = ap (λ (f : Option Edit). request_for s (value_lent lent) (wait_first key n f c.plan.next)) h
 
   read_asks : (c : Conf) (r : ℕ) → wait_of (op_at s n key lent value c.plan) ≡ Wait.Read r → asked c ≡ Request.Read r
   read_asks c r h = ap (request_for s (value_lent lent)) h
@@ -129,7 +129,7 @@ module _ (s n key : ℕ) (lent : Lent) (value : List ℕ) (bytes : List ℕ) whe
       let w = ap asks (read_asks c q (ap (λ (p : Plan). wait_of (op_at s n key lent value p)) ep ∙ h)) in
       rw (wait_beat b beats c g w) (stands beats (while b c) (good_meanwhile s n key lent value b c g) ep ei eb (read h r))
   stands (ready ∷ beats) c {image = image} g ep ei eb (edit {e = e} h d r) =
-      let h' : first c.plan.edits ≡ First.Do e = ap (λ (p : Plan). first p.edits) ep ∙ h in
+      let h' : first c.plan.edits ≡ Some e = ap (λ (p : Plan). first p.edits) ep ∙ h in
       let l = edit_leads s n key lent value c e g h' in
       next_beat beats c (request_edit s (value_lent lent) e) g (edit_asks c e h') (serves-edit s (value_lent lent) e) (d image)
       (stands beats (after c) (good_onward s n key lent value c g) (l.plan_is ∙ ap left ep) (l.image_is ∙ ap (edited s key (own s n key lent value) e) ei) (l.buffer_is ∙ eb) r)

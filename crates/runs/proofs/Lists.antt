@@ -7,7 +7,7 @@ use mathlib.Core.Path.{◌≡◌, refl, sym, ◌∙◌, ap, subst}
 use mathlib.Core.Bool.{Bool, true, false, cond}
 use mathlib.Core.List.{List, [], ◌∷◌, ◌++◌, map, append-nil, Memᴰ}
 use lib.ListN.{length}
-use Rattle.std.specs.Prelude.{Result}
+use Rattle.std.specs.Prelude.{Result, Option, Some, None}
 use Rattle.chip.specs.Chip.{erased}
 use Rattle.chip.specs.Geometry.{Fits, region_of, erase_region, numbers}
 use Rattle.chip.proofs.Image.{region_erased_other, fits_geometry, fits_blank}
@@ -20,14 +20,13 @@ use Rattle.region.specs.declared.Event.{Event}
 use Rattle.region.specs.declared.Want.{Want}
 use Rattle.region.specs.Walk.{event_in}
 use Rattle.refusals.specs.Refusals.{first_refusal}
-use Rattle.lookup.specs.declared.Need.{Need}
 use Rattle.lookup.specs.declared.Room.{Room}
 use Rattle.lookup.specs.declared.Seen.{Seen}
 use Rattle.lookup.specs.declared.Looked.{Looked}
-use Rattle.lookup.specs.Gather.{unseen, noted}
+use Rattle.lookup.specs.Gather.{unseen, noted, some_room}
 use Rattle.lookup.specs.Turns.{lookup_in, read_from, regions_read, hit_by}
 use Rattle.lookup.specs.Words.{first_room, Passed}
-use Rattle.lookup.proofs.Scan.{gathered_first}
+use Rattle.lookup.proofs.Scan.{gathered_first, room_cases}
 use Rattle.plans.specs.declared.Answer.{Answer}
 use Rattle.plans.specs.declared.Answer.TheVariants.{Complete, Written, Freed}
 use Rattle.plans.specs.declared.Aim.{Aim}
@@ -56,26 +55,26 @@ use Rattle.refusals.specs.declared.Refusal.{Refusal}
 -- A lookup's reads.
 module _ (image : List ℕ) (s key : ℕ) where
   -- behind a region that is passed
-  passes : (need : Need) (seen : Seen) (q : ℕ) (rs : List ℕ) → Passed image s key q
+  passes : (need : Option ℕ) (seen : Seen) (q : ℕ) (rs : List ℕ) → Passed image s key q
       → (more : Seen) × (read_from seen key need s image (q ∷ rs) ≡ q ∷ read_from more key need s image rs)
   unfolding read_from
   passes need seen q rs h = let (o, e) = passed_end image s key q h in (noted seen need q (region_of s image q) o, rw e)
 
-  all_read : (need : Need) (order : List ℕ) (seen : Seen) → ((q : ℕ) → Memᴰ q order → Passed image s key q) → read_from seen key need s image order ≡ order
+  all_read : (need : Option ℕ) (order : List ℕ) (seen : Seen) → ((q : ℕ) → Memᴰ q order → Passed image s key q) → read_from seen key need s image order ≡ order
   unfolding read_from
   all_read need [] seen h = refl
   all_read need (q ∷ rs) seen h =
       let (more, e) = passes need seen q rs (h q (Memᴰ.head refl)) in
       e ∙ ap (λ (l : List ℕ). q ∷ l) (all_read need rs more (λ p m. h p (Memᴰ.tail m)))
 
-  read_to : (need : Need) (before rs : List ℕ) (r : ℕ) → ((q : ℕ) → Memᴰ q before → Passed image s key q)
+  read_to : (need : Option ℕ) (before rs : List ℕ) (r : ℕ) → ((q : ℕ) → Memᴰ q before → Passed image s key q)
       → ((seen : Seen) → read_from seen key need s image rs ≡ r ∷ []) → (seen : Seen) → read_from seen key need s image (before ++ rs) ≡ before ++ r ∷ []
   read_to need [] rs r h stops seen = stops seen
   read_to need (q ∷ before) rs r h stops seen =
       let (more, e) = passes need seen q (before ++ rs) (h q (Memᴰ.head refl)) in
       e ∙ ap (λ (l : List ℕ). q ∷ l) (read_to need before rs r (λ p m. h p (Memᴰ.tail m)) stops more)
 
-  module _ (need : Need) (order : List ℕ) where
+  module _ (need : Option ℕ) (order : List ℕ) where
     reads_to : {r : ℕ} {e : Event} (d : Decides image s key order r e) → ((seen : Seen) → read_from seen key need s image (r ∷ d.after) ≡ r ∷ [])
         → regions_read key need s image order ≡ d.before ++ r ∷ []
     reads_to {r} d stops = ap (regions_read key need s image) d.split ∙ read_to need d.before (r ∷ d.after) r d.passed stops unseen
@@ -121,10 +120,10 @@ module _ (image : List ℕ) (s n key : ℕ) where
 
   pub get_list : (buffer : List ℕ) → Reads image s n (get key buffer)
       → (rs : List ℕ) × UpTo image s key (probes key n) rs × (services (get key buffer) image s n ≡ map Request.Read rs)
-  get_list buffer h = (regions_read key Need.Nothing s image (probes key n), lookup_reads image s key Need.Nothing (probes key n), unfold_get buffer h)
+  get_list buffer h = (regions_read key None s image (probes key n), lookup_reads image s key None (probes key n), unfold_get buffer h)
 
-  abbrev room : List ℕ → Need
-  room value = Need.Room (record_length (length value))
+  abbrev room : List ℕ → Option ℕ
+  room value = Some (record_length (length value))
 
   pub append_list : (value : List ℕ) → answer_of (append key value) image s n ≡ Written
       → (r : ℕ) × (o : ℕ) × FirstRoom image s (record_length (length value)) (probes key n) r o
@@ -139,9 +138,9 @@ module _ (image : List ℕ) (s n key : ℕ) where
           × (services (append key value) image s n ≡ map Request.Read (probes key n) ++ Request.Write o (o + record_length (length value)) (r * s + o) ∷ [])
       go (append_no (k, w)) = absurd (not_refused image s n (append key value) (ap refusal h) w)
       go (appends seen r o e f) =
-          let place : seen.room ≡ Room.At r o true = gathered_first key (record_length (length value)) s image (probes key n) e ∙ f in
+          let place : seen.room ≡ some_room r o true = gathered_first key (record_length (length value)) s image (probes key n) e ∙ f in
           let wrote : edits s (length value) (append_plan (lookup_in key (room value) s image (probes key n))) ≡ Request.Write o (o + record_length (length value)) (r * s + o) ∷ [] =
-          ap (λ (l : Looked). edits s (length value) (append_plan l)) e ∙ ap (λ (t : Room). edits s (length value) (place_plan t)) place in
+          ap (λ (l : Looked). edits s (length value) (append_plan l)) e ∙ ap (λ (t : Option Room). edits s (length value) (place_plan t)) place in
           let looked : regions_read key (room value) s image (probes key n) ≡ probes key n = reads_all image s key (room value) (probes key n) e in
           (r, o, ((room_at image s (record_length (length value)) (probes key n) r o true).0 f).0, unfold_append value reads ∙ (λ i. map Request.Read (looked i) ++ wrote i))
 
@@ -155,18 +154,21 @@ module _ (image : List ℕ) (s n key : ℕ) where
         ∙ append-nil (map Request.Read (regions_read key (room value) s image (probes key n))),
   )
     where
-      placed : (seen : Seen) → lookup_in key (room value) s image (probes key n) ≡ Looked.Through seen → (t : Room) → first_room (record_length (length value)) s image (probes key n) ≡ t
+      placed : (seen : Seen) → lookup_in key (room value) s image (probes key n) ≡ Looked.Through seen → (t : Option Room) → first_room (record_length (length value)) s image (probes key n) ≡ t
           → edits s (length value) (place_plan t) ≡ []
-      placed seen e Room.Nowhere f = refl
-      placed seen e (Room.At r o false) f = refl
-      placed seen e (Room.At r o true) f = absurd (let z = ap (λ (d : Done). refusal d.answer) (append_placed image s n reads e f) in omega arith)
+      placed seen e =
+          room_cases
+          (λ t. first_room (record_length (length value)) s image (probes key n) ≡ t → edits s (length value) (place_plan t) ≡ [])
+          (λ f. refl)
+          (λ r o f. refl)
+          (λ r o f. absurd (let z = ap (λ (d : Done). refusal d.answer) (append_placed image s n reads e f) in omega arith))
 
       unwritten : (l : Looked) → lookup_in key (room value) s image (probes key n) ≡ l → edits s (length value) (append_plan l) ≡ []
       unwritten (Looked.Live r x) e = refl
       unwritten (Looked.Bad f p) e = refl
       unwritten (Looked.Through seen) e =
           let place : seen.room ≡ first_room (record_length (length value)) s image (probes key n) = gathered_first key (record_length (length value)) s image (probes key n) e in
-          ap (λ (t : Room). edits s (length value) (place_plan t)) place ∙ placed seen e (first_room (record_length (length value)) s image (probes key n)) refl
+          ap (λ (t : Option Room). edits s (length value) (place_plan t)) place ∙ placed seen e (first_room (record_length (length value)) s image (probes key n)) refl
 
   -- The removals.
   pub remove_list : (how : Removal) → answer_of (remove how key) image s n ≡ Written
@@ -182,20 +184,20 @@ module _ (image : List ℕ) (s n key : ℕ) where
           × (services (remove how key) image s n ≡ map Request.Read (d.before ++ r ∷ []) ++ Request.Write (kill_place how x) (kill_place how x + kill_length how x) (r * s + kill_place how x) ∷ [])
       go (remove_no (k, w)) = absurd (not_refused image s n (remove how key) (ap refusal h) w)
       go (removes r x e) =
-          let d = (live_is image s key Need.Nothing (probes key n) r x).0 e in
-          let looked : regions_read key Need.Nothing s image (probes key n) ≡ d.before ++ r ∷ [] = reads_live image s key Need.Nothing (probes key n) d in
+          let d = (live_is image s key None (probes key n) r x).0 e in
+          let looked : regions_read key None s image (probes key n) ≡ d.before ++ r ∷ [] = reads_live image s key None (probes key n) d in
           (r, x, d, unfold_remove how reads ∙ (λ i. map Request.Read (looked i) ++ edits s 0 (remove_plan how (hit_by (e i)))))
 
   pub remove_no_list : (how : Removal) → Reads image s n (remove how key) → 1 ≤ refusal (answer_of (remove how key) image s n)
       → (rs : List ℕ) × UpTo image s key (probes key n) rs × (services (remove how key) image s n ≡ map Request.Read rs)
   remove_no_list how fine h = (
-    regions_read key Need.Nothing s image (probes key n),
-    lookup_reads image s key Need.Nothing (probes key n),
-    unfold_remove how fine ∙ ap (λ (l : List Request). map Request.Read (regions_read key Need.Nothing s image (probes key n)) ++ l) (unwritten (lookup_in key Need.Nothing s image (probes key n)) refl)
-        ∙ append-nil (map Request.Read (regions_read key Need.Nothing s image (probes key n))),
+    regions_read key None s image (probes key n),
+    lookup_reads image s key None (probes key n),
+    unfold_remove how fine ∙ ap (λ (l : List Request). map Request.Read (regions_read key None s image (probes key n)) ++ l) (unwritten (lookup_in key None s image (probes key n)) refl)
+        ∙ append-nil (map Request.Read (regions_read key None s image (probes key n))),
   )
     where
-      unwritten : (l : Looked) → lookup_in key Need.Nothing s image (probes key n) ≡ l → edits s 0 (remove_plan how (hit_by l)) ≡ []
+      unwritten : (l : Looked) → lookup_in key None s image (probes key n) ≡ l → edits s 0 (remove_plan how (hit_by l)) ≡ []
       unwritten (Looked.Live r x) e = absurd (let z = ap (λ (d : Done). refusal d.answer) (removed_live image s n fine e) in omega arith)
       unwritten (Looked.Bad f p) e = refl
       unwritten (Looked.Through seen) e = refl

@@ -11,6 +11,8 @@ use lib.Dec.{ltb}
 use lib.ListN.{length, drop, get_or, drop_of_length-le}
 use lib.Seq.{drop-cons}
 use borrow.Author.Tests.{ltb-true, ltb-false, lt-ltb, le-ltb}
+use Rattle.std.specs.declared.ops.ControlFlow.TheVariants.{Break, Continue}
+use Rattle.std.specs.Prelude.{Option, Some, None}
 use Rattle.chip.specs.Every.{Every}
 use Rattle.chip.specs.Geometry.{region_of, erase_region, numbers}
 use Rattle.probe.specs.Probe.{probes}
@@ -20,10 +22,8 @@ use Rattle.format.specs.declared.Fault.{Fault}
 use Rattle.region.specs.declared.Want.{Want}
 use Rattle.region.specs.declared.Event.{Event}
 use Rattle.region.specs.Walk.{event_in}
-use Rattle.lookup.specs.declared.Need.{Need}
 use Rattle.lookup.specs.declared.Seen.{Seen}
 use Rattle.lookup.specs.declared.Looked.{Looked}
-use Rattle.lookup.specs.declared.Turn.{Turn}
 use Rattle.refusals.specs.Refusals.{refusal_of}
 use Rattle.lookup.specs.Gather.{unseen}
 use Rattle.lookup.specs.Turns.{turn, close, on_turn, look_from, lookup_in, read_from}
@@ -31,7 +31,6 @@ use Rattle.plans.specs.declared.Aim.{Aim}
 use Rattle.plans.specs.declared.Lent.{Lent}
 use Rattle.plans.specs.declared.Edit.{Edit}
 use Rattle.plans.specs.declared.Edits.{Edits}
-use Rattle.plans.specs.declared.First.{First}
 use Rattle.plans.specs.declared.Then.{Then}
 use Rattle.plans.specs.declared.Plan.{Plan}
 use Rattle.sweeping.specs.declared.Verdict.{Verdict}
@@ -67,7 +66,7 @@ every_cons : {A : Type 0} {P : A → Type 0} {x : A} {xs : List A} → Every P (
 every_cons (Every.also h hs) = (h, hs)
 
 -- No region is left to read.
-module _ (key : ℕ) (need : Need) (s : ℕ) (image : List ℕ) (seen : Seen) where
+module _ (key : ℕ) (need : Option ℕ) (s : ℕ) (image : List ℕ) (seen : Seen) where
   look_none : look_from seen key need s image [] ≡ close seen
   unfolding look_from
   look_none = refl
@@ -127,15 +126,15 @@ module _ (s n key : ℕ) (lent : Lent) (value : List ℕ) (bytes : List ℕ) whe
   ahead_same es region (Then.Sweep r k) = refl
   ahead_same es region (Then.Gives r x anew) = refl
 
-  none_left : (es : Edits) (next : Then) {image buffer : List ℕ} {rs : List Request} {o : Out} → first es ≡ First.Nothing
+  none_left : (es : Edits) (next : Then) {image buffer : List ℕ} {rs : List Request} {o : Out} → first es ≡ None
       → Ends_so (follows next) image buffer rs o → Ends_so (record { edits = es; next = next }) image buffer rs o
-  none_left es next h (over w) = over (ap (λ (f : First). wait_first key n f next) h ∙ w)
+  none_left es next h (over w) = over (ap (λ (f : Option Edit). wait_first key n f next) h ∙ w)
   none_left es next h (edit e d c) = absurd (let z : ◌≡◌ {A = ℕ} 0 1 = cc in omega arith)
   none_left es next {image} {buffer} {rs} {o} h (read {rs = qs} {r = r} w c) =
       let op = op_at s n key lent value in
       let ahead : advance_first (op (record { edits = es; next = next })) (region_of s image r) (first es) ≡ advance_next (op (follows next)) (region_of s image r) next =
       ap (advance_first (op (record { edits = es; next = next })) (region_of s image r)) h ∙ ahead_same es (region_of s image r) next in
-      read (ap (λ (f : First). wait_first key n f next) h ∙ w)
+      read (ap (λ (f : Option Edit). wait_first key n f next) h ∙ w)
       (subst (λ (p : Plan). Ends_so (given n lent (region_of s image r) p) image (filled lent (region_of s image r) p buffer) qs o) (sym ahead) c)
 
   -- one after the other, and then what follows
@@ -146,13 +145,13 @@ module _ (s n key : ℕ) (lent : Lent) (value : List ℕ) (bytes : List ℕ) whe
     abbrev Ahead : Edits → List ℕ → List Edit → Type 0
     Ahead es image xs = Ends_so (record { edits = es; next = next }) image buffer (map (request_edit s (value_lent lent)) xs ++ rs) o
 
-    does_first : (es : Edits) (image : List ℕ) (f : First) → first es ≡ f → All_serve (listed es) → Behind (listed es) image
+    does_first : (es : Edits) (image : List ℕ) (f : Option Edit) → first es ≡ f → All_serve (listed es) → Behind (listed es) image
         → ((image : List ℕ) → length (listed (rest es)) < length (listed es) → All_serve (listed (rest es)) → Behind (listed (rest es)) image → Ahead (rest es) image (listed (rest es)))
         → Ahead es image (listed es)
     unfolding applied
-    does_first es image First.Nothing h d c ih =
+    does_first es image None h d c ih =
         subst (Ahead es image) (sym (listed_none es h)) (none_left es next h (subst (λ (xs : List Edit). Behind xs image) (listed_none es h) c))
-    does_first es image (First.Do e) h d c ih =
+    does_first es image (Some e) h d c ih =
         let (now, later) = every_cons (subst All_serve (listed_some es h) d) in
         subst (Ahead es image) (sym (listed_some es h))
         (edit h now (ih (edited s key new e image) (omega (arith, ap length (listed_some es h))) later (subst (λ (xs : List Edit). Behind xs image) (listed_some es h) c)))
@@ -174,7 +173,7 @@ module _ (s n key : ℕ) (lent : Lent) (value : List ℕ) (bytes : List ℕ) whe
 
   -- A lookup, where this follows however it ends.
   module _ (aim : Aim) (image buffer : List ℕ) (least : 1 ≤ n) (rs : List Request) (o : Out) where
-    abbrev need : Need
+    abbrev need : Option ℕ
     need = need_of aim (value_lent lent)
 
     abbrev whole : Looked
@@ -204,7 +203,7 @@ module _ (s n key : ℕ) (lent : Lent) (value : List ℕ) (bytes : List ℕ) whe
       turning i r seen left (Event.End p) last h ih = go _ h (ltb (i + 1) n) refl
         where
           go : (more : Seen) → look_from more key need s image left ≡ whole → (t : Bool) → ltb (i + 1) n ≡ t
-              → let p = turned_to aim n i (cond t (Turn.More more) (Turn.Stop (close more))) in
+              → let p = turned_to aim n i (cond t (Continue more) (Break (close more))) in
               Ends_so (given n lent (region_of s image r) p) image (filled lent (region_of s image r) p buffer) (map Request.Read (read_from more key need s image left) ++ rs) o
           go more h true e = ih more (ltb-true _ _ e) h
           go more h false e =
@@ -250,11 +249,11 @@ module _ (s n key : ℕ) (lent : Lent) (value : List ℕ) (bytes : List ℕ) whe
     swept_on zero i k image h ih = rw (le-ltb i n (omega arith)) (over refl)
     swept_on (suc d) i k image h ih = rw (lt-ltb i n (omega arith)) (ih k image (omega arith))
 
-    swept_rests : (i k : ℕ) → rests First.Nothing (swept_to s n i k) ≡ true
-    swept_rests i k = by_swept (λ (t : Then). rests First.Nothing t ≡ true) s n i k refl refl
+    swept_rests : (i k : ℕ) → rests None (swept_to s n i k) ≡ true
+    swept_rests i k = by_swept (λ (t : Then). rests None t ≡ true) s n i k refl refl
 
     -- nothing is given, whatever the verdict
-    verdict_rests : (i k : ℕ) (v : Verdict) → rests First.Nothing (sweep_plan s n i k v).next ≡ true
+    verdict_rests : (i k : ℕ) (v : Verdict) → rests None (sweep_plan s n i k v).next ≡ true
     verdict_rests i k Verdict.Stands = swept_rests (i + 1) k
     verdict_rests i k Verdict.Erase = swept_rests (i + 1) (k + 1)
     verdict_rests i k (Verdict.Bad f p) = refl
@@ -283,7 +282,7 @@ module _ (s n key : ℕ) (lent : Lent) (value : List ℕ) (bytes : List ℕ) whe
         let j = judged d i k image h ih v in
         let c : Ends_so (given n lent region p) image (filled lent region p buffer) (services_on s image i rs v)
         (out (done_on s image (k * s) i rs v).answer (done_on s image (k * s) i rs v).image buffer) =
-        rw (given_rests n lent region First.Nothing p calm, filled_rests n lent region First.Nothing p calm buffer) j in
+        rw (given_rests n lent region None p calm, filled_rests n lent region None p calm buffer) j in
         rw (services_one s image i rs, done_one s image (k * s) i rs) (read refl c)
 
     sweeping : (d i k : ℕ) (image : List ℕ) → i + suc d ≡ n → Sweeps (follows (Then.Sweep i k)) (suc d) i k image

@@ -10,6 +10,7 @@ use lib.Dec.{ltb}
 use lib.ListN.{length, take, drop, length-append, length-take, length-drop}
 use lib.Seq.{length-sets}
 use borrow.Author.Tests.{ltb-true, ltb-false}
+use Rattle.std.specs.Prelude.{Option, Some}
 use Rattle.chip.specs.Chip.{written}
 use Rattle.chip.specs.Geometry.{Fits, region_of}
 use Rattle.chip.proofs.Image.{region-length, fits_written, fits_erased}
@@ -17,7 +18,6 @@ use Rattle.format.specs.declared.Record.{Record}
 use Rattle.region.specs.Walk.{value_length, value_in}
 use Rattle.plans.specs.declared.Lent.{Lent}
 use Rattle.plans.specs.declared.Edit.{Edit}
-use Rattle.plans.specs.declared.First.{First}
 use Rattle.plans.specs.declared.Then.{Then}
 use Rattle.plans.specs.declared.Plan.{Plan}
 use Rattle.plans.specs.Writes.{value_lent, value_of, start_of, bytes_of, size_of, edited, laid_in, first, rest}
@@ -150,15 +150,15 @@ module _ (s n key : ℕ) (lent : Lent) (value : List ℕ) where
     pub lends : buffers_fit lent (length value) (length c.buffer) ≡ true
     pub long : length c.region ≡ s
     pub fits : Fits c.image s n
-    pub laid_in_lem : (e : Edit) → first c.plan.edits ≡ First.Do e → take (size_of (value_lent lent) e) (drop (start_of e) c.region) ≡ bytes_of key own e
+    pub laid_in_lem : (e : Edit) → first c.plan.edits ≡ Some e → take (size_of (value_lent lent) e) (drop (start_of e) c.region) ≡ bytes_of key own e
 
   -- the bytes of an edit that is waited for are laid
   pub lays : (p : Plan) (region : List ℕ) (buffer : ℕ) → Ruled (op_at p) → buffers_fit lent (length value) buffer ≡ true → length region ≡ s
-      → (e : Edit) → first p.edits ≡ First.Do e → take (size_of (value_lent lent) e) (drop (start_of e) (laid (op_at p) region value)) ≡ bytes_of key own e
+      → (e : Edit) → first p.edits ≡ Some e → take (size_of (value_lent lent) e) (drop (start_of e) (laid (op_at p) region value)) ≡ bytes_of key own e
   lays p region buffer k b l e h =
       let size : length own ≡ value_lent lent = value_lent_lem lent value buffer b in
       let fit : edit_fits s n (length own) e ≡ true = rw size (edits_facts s n (value_lent lent) p.edits (plan_of (op_at p) k).edits_good h).0 in
-      ap (λ (f : First). take (size_of (value_lent lent) e) (drop (start_of e) (laid_for key own (wait_first key n f p.next) region))) h
+      ap (λ (f : Option Edit). take (size_of (value_lent lent) e) (drop (start_of e) (laid_for key own (wait_first key n f p.next) region))) h
       ∙ ap (λ (m : ℕ). take (size_of m e) (drop (start_of e) (laid_in key own e region))) (sym size)
       ∙ laid_there s n key own e region l fit
 
@@ -194,7 +194,7 @@ module _ (s n key : ℕ) (lent : Lent) (value : List ℕ) where
     fits = g.fits;
     laid_in_lem = λ e h.
         let same : region_meanwhile (request_at c) bytes c.region ≡ c.region =
-        ap (λ (f : First). region_meanwhile (request_for s (value_lent lent) (wait_first key n f c.plan.next)) bytes c.region) h ∙ edit_waits (value_lent lent) bytes e c.region in
+        ap (λ (f : Option Edit). region_meanwhile (request_for s (value_lent lent) (wait_first key n f c.plan.next)) bytes c.region) h ∙ edit_waits (value_lent lent) bytes e c.region in
         ap (λ (t : List ℕ). take (size_of (value_lent lent) e) (drop (start_of e) t)) same ∙ g.laid_in_lem e h;
   }
 
@@ -228,7 +228,7 @@ module _ (s n key : ℕ) (lent : Lent) (value : List ℕ) where
     pub image_is : (onward c).image ≡ image
     pub buffer_is : (onward c).buffer ≡ buffer
 
-  pub edit_leads : (c : Conf) (e : Edit) → Good c → first c.plan.edits ≡ First.Do e → Leads c (left c.plan) (edited s key own e c.image) c.buffer
+  pub edit_leads : (c : Conf) (e : Edit) → Good c → first c.plan.edits ≡ Some e → Leads c (left c.plan) (edited s key own e c.image) c.buffer
   edit_leads c e g h =
       let op : Op = op_at c.plan in
       let calm = (plan_of op g.kept).at_rest in
@@ -236,7 +236,7 @@ module _ (s n key : ℕ) (lent : Lent) (value : List ℕ) where
       record {
         plan_is = ap (given n lent (region_then c)) ahead ∙ given_rests n lent (region_then c) (first c.plan.edits) (left c.plan) calm;
         image_is =
-            ap (λ (f : First). image_served s (request_for s (value_lent lent) (wait_first key n f c.plan.next)) c.region c.image) h
+            ap (λ (f : Option Edit). image_served s (request_for s (value_lent lent) (wait_first key n f c.plan.next)) c.region c.image) h
             ∙ edit_served s (value_lent lent) key own e c.region c.image (g.laid_in_lem e h);
         buffer_is = ap (λ (p : Plan). filled lent (region_then c) p c.buffer) ahead ∙ filled_rests n lent (region_then c) (first c.plan.edits) (left c.plan) calm c.buffer;
       }

@@ -8,7 +8,10 @@ use mathlib.Core.Bool.{Bool, true, false, cond}
 use mathlib.Core.List.{List, [], ◌∷◌}
 use lib.Dec.{ltb}
 use lib.ListN.{take, drop, get_or}
-use Rattle.std.specs.Prelude.{Ok}
+use Rattle.lookup.proofs.Scan.{room_cases}
+use Rattle.std.specs.declared.ops.ControlFlow.TheVariants.{Break, Continue}
+use Rattle.std.specs.declared.ops.ControlFlow.{ControlFlow}
+use Rattle.std.specs.Prelude.{Ok, Option, Some, None}
 use Rattle.probe.specs.Probe.{probes}
 use Rattle.format.specs.declared.Record.{Record}
 use Rattle.format.specs.declared.Removal.{Removal}
@@ -17,7 +20,6 @@ use Rattle.refusals.specs.declared.Refusal.{Refusal}
 use Rattle.lookup.specs.declared.Room.{Room}
 use Rattle.lookup.specs.declared.Seen.{Seen}
 use Rattle.lookup.specs.declared.Looked.{Looked}
-use Rattle.lookup.specs.declared.Turn.{Turn}
 use Rattle.lookup.specs.Turns.{turn_of}
 use Rattle.plans.specs.declared.Answer.{Answer}
 use Rattle.plans.specs.declared.Answer.TheVariants.{Refused}
@@ -25,7 +27,6 @@ use Rattle.plans.specs.declared.Aim.{Aim}
 use Rattle.plans.specs.declared.Lent.{Lent}
 use Rattle.plans.specs.declared.Edit.{Edit}
 use Rattle.plans.specs.declared.Edits.{Edits}
-use Rattle.plans.specs.declared.First.{First}
 use Rattle.plans.specs.declared.Then.{Then}
 use Rattle.plans.specs.declared.Plan.{Plan}
 use Rattle.plans.specs.Answers.{starts_anew}
@@ -93,10 +94,13 @@ begins_of (initialise key) = it_looks initialise_looks
 
 -- A lookup has ended, or goes on.
 
-place_of : {c : Call} → ((r o : ℕ) → EditsOf c (Edits.One (Edit.Lay r o))) → (place : Room) → PlanOf c (place_plan place)
-place_of l Room.Nowhere = follows_of it_ends
-place_of l (Room.At r o false) = follows_of it_ends
-place_of l (Room.At r o true) = record { edits_of = l r o; next_of = it_ends }
+place_of : {c : Call} → ((r o : ℕ) → EditsOf c (Edits.One (Edit.Lay r o))) → (place : Option Room) → PlanOf c (place_plan place)
+place_of {c} l =
+    room_cases
+    (λ place. PlanOf c (place_plan place))
+    (follows_of it_ends)
+    (λ r o. follows_of it_ends)
+    (λ r o. record { edits_of = l r o; next_of = it_ends })
 
 append_of_lem : {c : Call} → ((r o : ℕ) → EditsOf c (Edits.One (Edit.Lay r o))) → (n : ℕ) (looked : Looked) → PlanOf c (plan Aim.Append n looked)
 append_of_lem l n (Looked.Live r x) = follows_of it_ends
@@ -119,9 +123,9 @@ plan_of initialise_looks n (Looked.Bad f p) = anew_of _ n
 plan_of initialise_looks n (Looked.Through seen) = anew_of _ n
 plan_of initialise_appends n looked = append_of_lem (λ r o. initialise_lays) n looked
 
-turned_of : {c : Call} {aim : Aim} → Looks c aim → (n i : ℕ) (t : Turn) → PlanOf c (turned_to aim n i t)
-turned_of k n i (Turn.Stop looked) = plan_of k n looked
-turned_of k n i (Turn.More seen) = follows_of (it_looks k)
+turned_of : {c : Call} {aim : Aim} → Looks c aim → (n i : ℕ) (t : ControlFlow Looked Seen) → PlanOf c (turned_to aim n i t)
+turned_of k n i (Break looked) = plan_of k n looked
+turned_of k n i (Continue seen) = follows_of (it_looks k)
 
 -- A region is swept.
 
@@ -158,9 +162,9 @@ next_of_call op region initialise_gives = follows_of initialise_gives
 advance_of : {c : Call} (op : Op) (region : List ℕ) → PlanOf c op.plan → PlanOf c (advance op region)
 advance_of {c} op region p = go (first op.plan.edits)
   where
-    go : (f : First) → PlanOf c (advance_first op region f)
-    go (First.Do e) = record { edits_of = rest_of p.edits_of; next_of = p.next_of }
-    go First.Nothing = next_of_call op region p.next_of
+    go : (f : Option Edit) → PlanOf c (advance_first op region f)
+    go (Some e) = record { edits_of = rest_of p.edits_of; next_of = p.next_of }
+    go None = next_of_call op region p.next_of
 
 -- A value is given: initialise begins anew where it cannot be.
 given_of : {c : Call} (n : ℕ) (lent : Lent) (region : List ℕ) (p : Plan) → PlanOf c p → PlanOf c (given n lent region p)
@@ -233,7 +237,7 @@ edits_ask s key n t (removal_kills {r = r} {x = x}) = removal_writes r x
 edits_ask s key n t collect_clears = collect_erases
 edits_ask s key n t (initialise_clears {key = main} {i = i} {m = m}) = go (ltb i m)
   where
-    go : (b : Bool) → MayAsk s (initialise main) (request_for s 0 (wait_first key n (cond b (First.Do (Edit.Erase i)) First.Nothing) t))
+    go : (b : Bool) → MayAsk s (initialise main) (request_for s 0 (wait_first key n (cond b (Some (Edit.Erase i)) None) t))
     go true = initialise_erases
     go false = next_asks s 0 key n t
 edits_ask s key n t (initialise_lays {r = r} {o = o}) = initialise_writes r o
@@ -247,7 +251,7 @@ of_asks {c} {s} {op} o = rw (o.same_s, o.same_lent) (go op.fresh)
 
 -- An append writes its record, with the value that is lent.
 
-append_edit : {key : ℕ} {named : List ℕ} {es : Edits} {d : Edit} (own : ℕ) (value : List ℕ) → EditsOf (append key named) es → first es ≡ First.Do d
+append_edit : {key : ℕ} {named : List ℕ} {es : Edits} {d : Edit} (own : ℕ) (value : List ℕ) → EditsOf (append key named) es → first es ≡ Some d
     → bytes_of own value d ≡ record_bytes own value
 append_edit own value none_left h = absurd (let z : ◌≡◌ {A = ℕ} 0 1 = cc in omega arith)
 append_edit {d = d} own value (append_lays {r = r} {o = o}) h = ap (bytes_of own value) (let z : d ≡ Edit.Lay r o = cc in z)

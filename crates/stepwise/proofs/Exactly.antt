@@ -8,6 +8,11 @@ use mathlib.Core.List.{List}
 use lib.Dec.{ltb}
 use lib.ListN.{length, get_or}
 use borrow.Author.Tests.{eqb-true}
+use Rattle.lookup.proofs.Scan.{room_cases}
+use Rattle.lookup.specs.declared.Seen.{Seen}
+use Rattle.std.specs.declared.ops.ControlFlow.TheVariants.{Break, Continue}
+use Rattle.std.specs.declared.ops.ControlFlow.{ControlFlow}
+use Rattle.std.specs.Prelude.{Option, Some, None}
 use Rattle.probe.specs.Probe.{probes}
 use Rattle.format.specs.declared.Record.{Record}
 use Rattle.format.specs.declared.Fault.{Fault}
@@ -17,7 +22,6 @@ use Rattle.region.specs.Walk.{bytes_in, value_length}
 use Rattle.refusals.specs.declared.Refusal.{Refusal}
 use Rattle.lookup.specs.declared.Room.{Room}
 use Rattle.lookup.specs.declared.Looked.{Looked}
-use Rattle.lookup.specs.declared.Turn.{Turn}
 use Rattle.refusals.specs.Refusals.{number, refusal_of}
 use Rattle.lookup.specs.Turns.{close, turn_of, refused_by}
 use Rattle.plans.specs.declared.Answer.{Answer}
@@ -25,7 +29,6 @@ use Rattle.plans.specs.declared.Answer.TheVariants.{Complete, Refused}
 use Rattle.plans.specs.declared.Aim.{Aim}
 use Rattle.plans.specs.declared.Lent.{Lent}
 use Rattle.plans.specs.declared.Edit.{Edit}
-use Rattle.plans.specs.declared.First.{First}
 use Rattle.plans.specs.declared.Then.{Then}
 use Rattle.plans.specs.declared.Plan.{Plan}
 use Rattle.sweeping.specs.declared.Verdict.{Verdict}
@@ -65,12 +68,12 @@ edit_none s len (Edit.Lay r o) = refl
 edit_none s len (Edit.Kill how r x) = refl
 edit_none s len (Edit.Erase r) = refl
 
-request_low : (s len key n : ℕ) (f : First) (t : Then) → end_refusal 11 t ≤ 10 → request_refusal (request_for s len (wait_first key n f t)) ≤ 10
-request_low s len key n (First.Do e) t h = omega (arith, edit_none s len e)
-request_low s len key n First.Nothing (Then.Ends answer) h = omega (arith, h)
-request_low s len key n First.Nothing (Then.Seek aim i seen) h = omega (arith, h)
-request_low s len key n First.Nothing (Then.Sweep r k) h = omega (arith, h)
-request_low s len key n First.Nothing (Then.Gives r x again) h = omega (arith, h)
+request_low : (s len key n : ℕ) (f : Option Edit) (t : Then) → end_refusal 11 t ≤ 10 → request_refusal (request_for s len (wait_first key n f t)) ≤ 10
+request_low s len key n (Some e) t h = omega (arith, edit_none s len e)
+request_low s len key n None (Then.Ends answer) h = omega (arith, h)
+request_low s len key n None (Then.Seek aim i seen) h = omega (arith, h)
+request_low s len key n None (Then.Sweep r k) h = omega (arith, h)
+request_low s len key n None (Then.Gives r x again) h = omega (arith, h)
 
 -- What a lookup or a sweep ends with is none of the stepped form's own refusals.
 
@@ -86,10 +89,13 @@ read_low region x capacity = go (ltb capacity (value_length x)) (check_sum_fits 
     go false true = omega arith
     go false false = omega arith
 
-place_low : (place : Room) → end_refusal 0 (place_plan place).next ≤ 10
-place_low Room.Nowhere = omega arith
-place_low (Room.At r o false) = omega arith
-place_low (Room.At r o true) = omega arith
+place_low : (place : Option Room) → end_refusal 0 (place_plan place).next ≤ 10
+place_low =
+    room_cases
+    (λ place. end_refusal 0 (place_plan place).next ≤ 10)
+    (omega arith)
+    (λ r o. omega arith)
+    (λ r o. omega arith)
 
 refused_low : (looked : Looked) → number (refused_by looked) ≤ 10
 refused_low (Looked.Live r x) = omega arith
@@ -106,11 +112,11 @@ shape_low (is_anew h) = omega arith
 plan_low : (aim : Aim) (n : ℕ) (looked : Looked) → end_refusal 0 (plan aim n looked).next ≤ 10
 plan_low aim n looked = shape_low (plan_shape n Lent.Nothing aim looked)
 
-turned_low : (aim : Aim) (n i : ℕ) (t : Turn) → end_refusal 0 (turned_to aim n i (closes n i t)).next ≤ 10
-turned_low aim n i (Turn.Stop looked) = plan_low aim n looked
-turned_low aim n i (Turn.More seen) = go (ltb (i + 1) n)
+turned_low : (aim : Aim) (n i : ℕ) (t : ControlFlow Looked Seen) → end_refusal 0 (turned_to aim n i (closes n i t)).next ≤ 10
+turned_low aim n i (Break looked) = plan_low aim n looked
+turned_low aim n i (Continue seen) = go (ltb (i + 1) n)
   where
-    go : (t : Bool) → end_refusal 0 (turned_to aim n i (cond t (Turn.More seen) (Turn.Stop (close seen)))).next ≤ 10
+    go : (t : Bool) → end_refusal 0 (turned_to aim n i (cond t (Continue seen) (Break (close seen)))).next ≤ 10
     go true = omega arith
     go false = plan_low aim n (close seen)
 
@@ -141,14 +147,14 @@ given_low n lent region p h = go p.next refl h
 -- A service that is done leads to another, or to an end that is no refusal of the stepped form.
 
 -- an edit was done: no refusal stands behind a write (R8.10)
-write_low : (e : Edit) (t : Then) → rests (First.Do e) t ≡ true → end_refusal 0 t ≤ 10
+write_low : (e : Edit) (t : Then) → rests (Some e) t ≡ true → end_refusal 0 t ≤ 10
 write_low e (Then.Ends answer) h = let z : refusal answer ≡ 0 = eqb-true _ _ h in omega arith
 write_low e (Then.Seek aim i seen) h = omega arith
 write_low e (Then.Sweep r k) h = omega arith
 write_low e (Then.Gives r x again) h = absurd (true≢false (sym h))
 
 -- a region was read
-next_low : (op : Op) (region : List ℕ) (t : Then) → rests First.Nothing t ≡ true → reply_fits (wait_next op.key op.n t) Reply.Done ≡ true
+next_low : (op : Op) (region : List ℕ) (t : Then) → rests None t ≡ true → reply_fits (wait_next op.key op.n t) Reply.Done ≡ true
     → end_refusal 0 (advance_next op region t).next ≤ 10
 next_low op region (Then.Ends answer) c h = absurd (true≢false (sym h))
 next_low op region (Then.Seek aim i seen) c h =
@@ -156,10 +162,10 @@ next_low op region (Then.Seek aim i seen) c h =
 next_low op region (Then.Sweep r k) c h = sweep_low op.s op.n r k (verdict r region)
 next_low op region (Then.Gives r x again) c h = absurd (true≢false (sym c))
 
-advance_low : (op : Op) (region : List ℕ) (f : First) → rests f op.plan.next ≡ true → reply_fits (wait_first op.key op.n f op.plan.next) Reply.Done ≡ true
+advance_low : (op : Op) (region : List ℕ) (f : Option Edit) → rests f op.plan.next ≡ true → reply_fits (wait_first op.key op.n f op.plan.next) Reply.Done ≡ true
     → end_refusal 0 (advance_first op region f).next ≤ 10
-advance_low op region (First.Do e) c h = write_low e op.plan.next c
-advance_low op region First.Nothing c h = next_low op region op.plan.next c h
+advance_low op region (Some e) c h = write_low e op.plan.next c
+advance_low op region None c h = next_low op region op.plan.next c h
 
 -- a reply to a service: the operation is not fresh
 not_fresh : (t : Bool) (w : Wait) (y : Reply) → begins y ≡ false → reply_fits (cond t Wait.Begin w) y ≡ true → reply_fits w y ≡ true
@@ -182,14 +188,14 @@ waits_low s len (Wait.Edit e) h = omega (arith, edit_none s len e)
 waits_low s len (Wait.Over answer) h = absurd (true≢false (sym h))
 
 -- "begin" comes to a fresh operation alone, and one that keeps the rule has a service to ask for
-begins_low : (t : Bool) (s len key n : ℕ) (f : First) (next : Then) → fresh_fits t f next ≡ true → rests f next ≡ true
+begins_low : (t : Bool) (s len key n : ℕ) (f : Option Edit) (next : Then) → fresh_fits t f next ≡ true → rests f next ≡ true
     → reply_fits (cond t Wait.Begin (wait_first key n f next)) Reply.Begin ≡ true → request_refusal (request_for s len (wait_first key n f next)) ≤ 10
-begins_low t s len key n (First.Do e) next h c w = omega (arith, edit_none s len e)
-begins_low true s len key n First.Nothing (Then.Ends answer) h c w = absurd (true≢false (sym h))
-begins_low false s len key n First.Nothing (Then.Ends answer) h c w = absurd (true≢false (sym w))
-begins_low t s len key n First.Nothing (Then.Seek aim i seen) h c w = omega arith
-begins_low t s len key n First.Nothing (Then.Sweep r k) h c w = omega arith
-begins_low t s len key n First.Nothing (Then.Gives r x again) h c w = absurd (true≢false (sym c))
+begins_low t s len key n (Some e) next h c w = omega (arith, edit_none s len e)
+begins_low true s len key n None (Then.Ends answer) h c w = absurd (true≢false (sym h))
+begins_low false s len key n None (Then.Ends answer) h c w = absurd (true≢false (sym w))
+begins_low t s len key n None (Then.Seek aim i seen) h c w = omega arith
+begins_low t s len key n None (Then.Sweep r k) h c w = omega arith
+begins_low t s len key n None (Then.Gives r x again) h c w = absurd (true≢false (sym c))
 
 -- The refusal of a step whose call fits, by the reply: 12 with "failed", else none of 11 and 12.
 pub data Replied (refusal : ℕ) : Reply → Type 0 where

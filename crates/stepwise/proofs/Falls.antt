@@ -10,7 +10,10 @@ use mathlib.Core.List.{List, [], ◌∷◌}
 use mathlib.Core.Logic.{◌↔◌}
 use lib.Dec.{ltb}
 use lib.ListN.{length, get_or, length-map}
-use Rattle.std.specs.Prelude.{Result, Ok, Err}
+use Rattle.lookup.proofs.Scan.{room_cases}
+use Rattle.std.specs.declared.ops.ControlFlow.TheVariants.{Break, Continue}
+use Rattle.std.specs.declared.ops.ControlFlow.{ControlFlow}
+use Rattle.std.specs.Prelude.{Result, Ok, Err, Option, Some, None}
 use Rattle.chip.specs.Every.{Every}
 use Rattle.chip.specs.Geometry.{numbers}
 use Rattle.probe.specs.Probe.{probes}
@@ -19,7 +22,6 @@ use Rattle.refusals.specs.declared.Refusal.{Refusal}
 use Rattle.lookup.specs.declared.Room.{Room}
 use Rattle.lookup.specs.declared.Seen.{Seen}
 use Rattle.lookup.specs.declared.Looked.{Looked}
-use Rattle.lookup.specs.declared.Turn.{Turn}
 use Rattle.lookup.specs.declared.Hit.{Hit}
 use Rattle.lookup.specs.Turns.{close, turn_of, hit_by}
 use Rattle.plans.specs.declared.Answer.{Answer}
@@ -27,7 +29,6 @@ use Rattle.plans.specs.declared.Answer.TheVariants.{Refused}
 use Rattle.plans.specs.declared.Aim.{Aim}
 use Rattle.plans.specs.declared.Lent.{Lent}
 use Rattle.plans.specs.declared.Edit.{Edit}
-use Rattle.plans.specs.declared.First.{First}
 use Rattle.plans.specs.declared.Then.{Then}
 use Rattle.plans.specs.declared.Plan.{Plan}
 use Rattle.plans.specs.Answers.{starts_anew}
@@ -65,10 +66,13 @@ use Rattle.stepwise.proofs.Misfits.{edit_asks, lent_fits, fits, asks_later}
 
 -- A lookup's end: what its plan asks for lay behind the lookup.
 
-place_ahead : (n : ℕ) (place : Room) → ahead_plan n (place_plan place) ≤ 1
-place_ahead n Room.Nowhere = omega arith
-place_ahead n (Room.At r o false) = omega arith
-place_ahead n (Room.At r o true) = omega arith
+place_ahead : (n : ℕ) (place : Option Room) → ahead_plan n (place_plan place) ≤ 1
+place_ahead n =
+    room_cases
+    (λ place. ahead_plan n (place_plan place) ≤ 1)
+    (omega arith)
+    (λ r o. omega arith)
+    (λ r o. omega arith)
 
 pub numbers-length : (r k : ℕ) → length (numbers r k) ≡ k
 unfolding numbers
@@ -121,11 +125,11 @@ given_ahead n lent region p = go p.next refl
 -- A service is done.
 
 -- a region was seen of a lookup
-turned_ahead : (aim : Aim) (n i : ℕ) (before : Seen) (t : Turn) → i < n → suc (ahead_plan n (turned_to aim n i (closes n i t))) ≤ ahead_next n (Then.Seek aim i before)
-turned_ahead aim n i before (Turn.Stop looked) l = omega (arith, plan_ahead aim n looked)
-turned_ahead aim n i before (Turn.More seen) l = go (ltb (i + 1) n)
+turned_ahead : (aim : Aim) (n i : ℕ) (before : Seen) (t : ControlFlow Looked Seen) → i < n → suc (ahead_plan n (turned_to aim n i (closes n i t))) ≤ ahead_next n (Then.Seek aim i before)
+turned_ahead aim n i before (Break looked) l = omega (arith, plan_ahead aim n looked)
+turned_ahead aim n i before (Continue seen) l = go (ltb (i + 1) n)
   where
-    go : (t : Bool) → suc (ahead_plan n (turned_to aim n i (cond t (Turn.More seen) (Turn.Stop (close seen))))) ≤ ahead_next n (Then.Seek aim i before)
+    go : (t : Bool) → suc (ahead_plan n (turned_to aim n i (cond t (Continue seen) (Break (close seen))))) ≤ ahead_next n (Then.Seek aim i before)
     go true = omega arith
     go false = omega (arith, plan_ahead aim n (close seen))
 
@@ -148,10 +152,10 @@ next_ahead op region (Then.Sweep r k) c h = sweep_ahead op.s op.n r k (verdict r
 next_ahead op region (Then.Gives r x again) c h = absurd (true≢false (sym h))
 
 -- or an edit is off the list
-advance_ahead : (op : Op) (region : List ℕ) → Ruled op → (f : First) → first op.plan.edits ≡ f
+advance_ahead : (op : Op) (region : List ℕ) → Ruled op → (f : Option Edit) → first op.plan.edits ≡ f
     → reply_fits (wait_first op.key op.n f op.plan.next) Reply.Done ≡ true → suc (ahead_plan op.n (advance_first op region f)) ≤ ahead op
-advance_ahead op region k (First.Do e) q h = omega (arith, ap length (listed_some op.plan.edits q))
-advance_ahead op region k First.Nothing q h = omega (arith, next_ahead op region op.plan.next (plan_of op k).next_good h)
+advance_ahead op region k (Some e) q h = omega (arith, ap length (listed_some op.plan.edits q))
+advance_ahead op region k None q h = omega (arith, next_ahead op region op.plan.next (plan_of op k).next_good h)
 
 done_ahead : (op : Op) (region : List ℕ) → Ruled op → reply_fits (wait_of op) Reply.Done ≡ true → suc (ahead (next_op op Reply.Done region)) ≤ ahead op
 done_ahead op region k h = go op.fresh h
@@ -214,7 +218,7 @@ same op g = go (makes op g.reply g.region g.value g.buffer)
 -- None is left: the operation has answered.
 
 -- of what it waits for, with no edit left
-over_next : (s n key : ℕ) (lent : Lent) (t : Bool) (u : Then) → fresh_fits t First.Nothing u ≡ true → then_fits s n lent u ≡ true → rests First.Nothing u ≡ true → ahead_next n u ≡ 0
+over_next : (s n key : ℕ) (lent : Lent) (t : Bool) (u : Then) → fresh_fits t None u ≡ true → then_fits s n lent u ≡ true → rests None u ≡ true → ahead_next n u ≡ 0
     → (t ≡ false) × ((answer : Answer) × (request_for s (value_lent lent) (cond t Wait.Begin (wait_next key n u)) ≡ Request.Answers answer))
 over_next s n key lent false (Then.Ends answer) b c a z = (refl, (answer, refl))
 over_next s n key lent true (Then.Ends answer) b c a z = absurd (true≢false (sym b))
@@ -225,14 +229,14 @@ over_next s n key lent t (Then.Gives r x again) b c a z = absurd (true≢false (
 over : (op : Op) → Ruled op → ahead op ≡ 0 → (op.fresh ≡ false) × ((answer : Answer) × (request_of op ≡ Request.Answers answer))
 over op k z = go (first op.plan.edits) refl k.fresh_good (plan_of op k).at_rest
   where
-    go : (f : First) → first op.plan.edits ≡ f → fresh_fits op.fresh f op.plan.next ≡ true → rests f op.plan.next ≡ true
+    go : (f : Option Edit) → first op.plan.edits ≡ f → fresh_fits op.fresh f op.plan.next ≡ true → rests f op.plan.next ≡ true
         → (op.fresh ≡ false)
         × ((answer : Answer) × (request_for op.s (value_lent op.lent) (cond op.fresh Wait.Begin (wait_first op.key op.n f op.plan.next)) ≡ Request.Answers answer))
-    go (First.Do e) q b a = absurd (omega (arith, z, ap length (listed_some op.plan.edits q)))
-    go First.Nothing q b a = over_next op.s op.n op.key op.lent op.fresh op.plan.next b (plan_of op k).next_good a (omega arith)
+    go (Some e) q b a = absurd (omega (arith, z, ap length (listed_some op.plan.edits q)))
+    go None q b a = over_next op.s op.n op.key op.lent op.fresh op.plan.next b (plan_of op k).next_good a (omega arith)
 
 -- and back
-none_next : (s len key n : ℕ) (u : Then) → rests First.Nothing u ≡ true → asks (request_for s len (wait_next key n u)) ≡ false → ahead_next n u ≡ 0
+none_next : (s len key n : ℕ) (u : Then) → rests None u ≡ true → asks (request_for s len (wait_next key n u)) ≡ false → ahead_next n u ≡ 0
 none_next s len key n (Then.Ends answer) a h = refl
 none_next s len key n (Then.Seek aim i seen) a h = absurd (true≢false h)
 none_next s len key n (Then.Sweep r k) a h = absurd (true≢false h)
@@ -241,10 +245,10 @@ none_next s len key n (Then.Gives r x again) a h = absurd (true≢false (sym a))
 over_is : (op : Op) → Ruled op → op.fresh ≡ false → asks (request_of op) ≡ false → ahead op ≡ 0
 over_is op k b h = go (first op.plan.edits) refl (plan_of op k).at_rest (ap asks (sym (asks_later op b)) ∙ h)
   where
-    go : (f : First) → first op.plan.edits ≡ f → rests f op.plan.next ≡ true
+    go : (f : Option Edit) → first op.plan.edits ≡ f → rests f op.plan.next ≡ true
         → asks (request_for op.s (value_lent op.lent) (wait_first op.key op.n f op.plan.next)) ≡ false → ahead op ≡ 0
-    go (First.Do e) q a h = absurd (true≢false (sym (edit_asks op.s (value_lent op.lent) e) ∙ h))
-    go First.Nothing q a h =
+    go (Some e) q a h = absurd (true≢false (sym (edit_asks op.s (value_lent op.lent) e) ∙ h))
+    go None q a h =
         omega (arith, ap length (listed_none op.plan.edits q), none_next op.s (value_lent op.lent) op.key op.n op.plan.next a h)
 
 pub none_left : (op : Op) → rule op ≡ true → (ahead op ≡ 0) ↔ ((op.fresh ≡ false) × ((answer : Answer) × (request_of op ≡ Request.Answers answer)))

@@ -6,10 +6,11 @@ use mathlib.Core.Path.{◌≡◌, refl}
 use mathlib.Core.Bool.{Bool, true, false, cond}
 use mathlib.Core.List.{List}
 use lib.Dec.{ltb}
+use Rattle.plans.specs.declared.Edit.{Edit}
+use Rattle.std.specs.Prelude.{Option}
 use Rattle.plans.specs.declared.Answer.{Answer}
 use Rattle.plans.specs.declared.Answer.TheVariants.{Freed}
 use Rattle.plans.specs.declared.Lent.{Lent}
-use Rattle.plans.specs.declared.First.{First}
 use Rattle.plans.specs.declared.Then.{Then}
 use Rattle.plans.specs.declared.Plan.{Plan}
 use Rattle.plans.specs.Fits.{rests}
@@ -38,7 +39,7 @@ by_swept P s n r k on over = go (ltb r n)
     go false = over
 
 -- Where an operation rests nothing is to be given.
-module _ (n : ℕ) (lent : Lent) (region : List ℕ) (f : First) (p : Plan) (h : rests f p.next ≡ true) where
+module _ (n : ℕ) (lent : Lent) (region : List ℕ) (f : Option Edit) (p : Plan) (h : rests f p.next ≡ true) where
   pub given_rests : given n lent region p ≡ p
   given_rests = go p.next refl h
     where

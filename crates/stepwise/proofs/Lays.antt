@@ -10,7 +10,10 @@ use mathlib.Core.List.{List}
 use mathlib.Core.Logic.{◌⊎◌, inl, inr}
 use lib.Dec.{ltb}
 use lib.ListN.{length, take, drop, get_or}
-use Rattle.std.specs.Prelude.{Result, Err, Ok}
+use Rattle.lookup.proofs.Scan.{room_cases}
+use Rattle.std.specs.declared.ops.ControlFlow.TheVariants.{Break, Continue}
+use Rattle.std.specs.declared.ops.ControlFlow.{ControlFlow}
+use Rattle.std.specs.Prelude.{Result, Err, Ok, Option, Some, None}
 use Rattle.chip.proofs.Lists.{sets-before, sets-after}
 use Rattle.probe.specs.Probe.{probes}
 use Rattle.format.specs.declared.Record.{Record}
@@ -21,7 +24,6 @@ use Rattle.refusals.specs.declared.Refusal.{Refusal}
 use Rattle.lookup.specs.declared.Room.{Room}
 use Rattle.lookup.specs.declared.Seen.{Seen}
 use Rattle.lookup.specs.declared.Looked.{Looked}
-use Rattle.lookup.specs.declared.Turn.{Turn}
 use Rattle.lookup.specs.declared.Hit.{Hit}
 use Rattle.lookup.specs.Turns.{turn_of, hit_by}
 use Rattle.plans.specs.declared.Answer.{Answer}
@@ -29,7 +31,6 @@ use Rattle.plans.specs.declared.Answer.TheVariants.{Complete, Refused}
 use Rattle.plans.specs.declared.Aim.{Aim}
 use Rattle.plans.specs.declared.Lent.{Lent}
 use Rattle.plans.specs.declared.Edit.{Edit}
-use Rattle.plans.specs.declared.First.{First}
 use Rattle.plans.specs.declared.Then.{Then}
 use Rattle.plans.specs.declared.Plan.{Plan}
 use Rattle.plans.specs.Writes.{value_lent, buffer_lent, value_of, start_of, bytes_of, size_of, laid_in, first, ends}
@@ -112,9 +113,9 @@ steps_alter {op} {y} {region} {value} (fit h) = go y
     go Reply.Failed = lays (next_op op Reply.Failed region)
 
 -- A write that is asked for is the first edit that is left: its bytes.
-pub record Writes (len : ℕ) (f : First) (a e : ℕ) : Type 0 where
+pub record Writes (len : ℕ) (f : Option Edit) (a e : ℕ) : Type 0 where
   pub edit : Edit
-  pub is_first : f ≡ First.Do edit
+  pub is_first : f ≡ Some edit
   pub begins : a ≡ start_of edit
   pub stops : e ≡ start_of edit + size_of len edit
 
@@ -125,20 +126,20 @@ next_writes s len key n next h = go (next_awaits key n next) h
     go a_region h = let z : ◌≡◌ {A = ℕ} 0 1 = cc in omega arith
     go no_more h = let z : ◌≡◌ {A = ℕ} 0 1 = cc in omega arith
 
-edit_writes : (s len : ℕ) (d : Edit) {a e p : ℕ} → request_edit s len d ≡ Request.Write a e p → Writes len (First.Do d) a e
+edit_writes : (s len : ℕ) (d : Edit) {a e p : ℕ} → request_edit s len d ≡ Request.Write a e p → Writes len (Some d) a e
 edit_writes s len d h = go d h
   where
-    is : (d : Edit) {a e p q : ℕ} → Request.Write (start_of d) (start_of d + size_of len d) q ≡ Request.Write a e p → Writes len (First.Do d) a e
+    is : (d : Edit) {a e p q : ℕ} → Request.Write (start_of d) (start_of d + size_of len d) q ≡ Request.Write a e p → Writes len (Some d) a e
     is d {a} {e} h = record { edit = d; is_first = refl; begins = let z : a ≡ start_of d = cc in z; stops = let z : e ≡ start_of d + size_of len d = cc in z }
 
-    go : (d : Edit) {a e p : ℕ} → request_edit s len d ≡ Request.Write a e p → Writes len (First.Do d) a e
+    go : (d : Edit) {a e p : ℕ} → request_edit s len d ≡ Request.Write a e p → Writes len (Some d) a e
     go (Edit.Lay r o) h = is (Edit.Lay r o) h
     go (Edit.Kill how r x) h = is (Edit.Kill how r x) h
     go (Edit.Erase r) h = absurd (let z : ◌≡◌ {A = ℕ} 0 1 = cc in omega arith)
 
-first_writes : (s len key n : ℕ) (f : First) (next : Then) {a e p : ℕ} → request_for s len (wait_first key n f next) ≡ Request.Write a e p → Writes len f a e
-first_writes s len key n First.Nothing next h = absurd (next_writes s len key n next h)
-first_writes s len key n (First.Do d) next h = edit_writes s len d h
+first_writes : (s len key n : ℕ) (f : Option Edit) (next : Then) {a e p : ℕ} → request_for s len (wait_first key n f next) ≡ Request.Write a e p → Writes len f a e
+first_writes s len key n None next h = absurd (next_writes s len key n next h)
+first_writes s len key n (Some d) next h = edit_writes s len d h
 
 -- What a write's bytes make of the region buffer: they lie at their place, and the rest stays.
 pub record Laid (bytes region region' : List ℕ) (a e : ℕ) : Type 0 where
@@ -176,7 +177,7 @@ module _ (op : Op) (p : Plan) (region value : List ℕ) (k : Ruled (with_plan op
       let d : Edit = written.edit in
       let b : List ℕ = bytes_of op.key own d in
       let stops : e ≡ start_of d + size_of (length own) d = written.stops ∙ ap (λ (m : ℕ). start_of d + size_of m d) (sym size) in
-      subst (λ (f : First). Laid b region (laid_for op.key own (wait_first op.key op.n f p.next) region) a e) (sym written.is_first)
+      subst (λ (f : Option Edit). Laid b region (laid_for op.key own (wait_first op.key op.n f p.next) region) a e) (sym written.is_first)
       (subst (λ (o : ℕ). Laid b region (laid_in op.key own d region) o e) (sym written.begins)
       (subst (λ (o : ℕ). Laid b region (laid_in op.key own d region) (start_of d) o) (sym stops) (edit_laid op.s op.n op.key own d region long written_fits)))
 
@@ -226,10 +227,13 @@ answer_reads region x capacity = go (ltb capacity (value_length x)) (check_sum_f
     go false false = wrong_sum
 
 module _ (op : Op) (region buffer : List ℕ) where
-  place_fills : (place : Room) → Fills op region buffer (place_plan place)
-  place_fills Room.Nowhere = inl refl
-  place_fills (Room.At r o false) = inl refl
-  place_fills (Room.At r o true) = inl refl
+  place_fills : (place : Option Room) → Fills op region buffer (place_plan place)
+  place_fills =
+      room_cases
+      (λ place. Fills op region buffer (place_plan place))
+      (inl refl)
+      (λ r o. inl refl)
+      (λ r o. inl refl)
 
   -- initialise reads a value too, and is lent no buffer
   nothing_fills : (lent : Lent) → lent_nothing lent ≡ true → (r : ℕ) (x : Record) → filled_by lent region (Then.Gives r x true) buffer ≡ buffer
@@ -261,10 +265,10 @@ module _ (op : Op) (region buffer : List ℕ) where
   plan_fills (Aim.Remove how) i seen e h looked = remove_fills how (hit_by looked)
   plan_fills Aim.Initialise i seen e h looked = initialise_fills (hit_by looked) h
 
-  turned_fills : (aim : Aim) (i : ℕ) (seen : Seen) → op.plan.next ≡ Then.Seek aim i seen → lent_for aim op.lent ≡ true → (t : Turn)
+  turned_fills : (aim : Aim) (i : ℕ) (seen : Seen) → op.plan.next ≡ Then.Seek aim i seen → lent_for aim op.lent ≡ true → (t : ControlFlow Looked Seen)
       → Fills op region buffer (turned_to aim op.n i t)
-  turned_fills aim i seen e h (Turn.Stop looked) = plan_fills aim i seen e h looked
-  turned_fills aim i seen e h (Turn.More more) = inl refl
+  turned_fills aim i seen e h (Break looked) = plan_fills aim i seen e h looked
+  turned_fills aim i seen e h (Continue more) = inl refl
 
   swept_fills : (s n r k : ℕ) → filled_by op.lent region (swept_to s n r k) buffer ≡ buffer
   swept_fills s n r k = by_swept (λ (t : Then). filled_by op.lent region t buffer ≡ buffer) s n r k refl refl
@@ -275,7 +279,7 @@ module _ (op : Op) (region buffer : List ℕ) where
   sweep_fills s n r k (Verdict.Bad f p) = refl
 
   -- a region was read
-  next_fills : (t : Then) → op.plan.next ≡ t → then_fits op.s op.n op.lent t ≡ true → rests First.Nothing t ≡ true → Fills op region buffer (advance_next op region t)
+  next_fills : (t : Then) → op.plan.next ≡ t → then_fits op.s op.n op.lent t ≡ true → rests None t ≡ true → Fills op region buffer (advance_next op region t)
   next_fills (Then.Ends answer) e h c = inl refl
   next_fills (Then.Seek aim i seen) e h c =
       turned_fills aim i seen e (seek_facts op.s op.n op.lent aim i seen h).0
@@ -286,9 +290,9 @@ module _ (op : Op) (region buffer : List ℕ) where
   advance_fills : Ruled op → Fills op region buffer (advance op region)
   advance_fills k = go (first op.plan.edits) (plan_of op k).at_rest
     where
-      go : (f : First) → rests f op.plan.next ≡ true → Fills op region buffer (advance_first op region f)
-      go (First.Do d) c = inl (filled_rests op.n op.lent region (First.Do d) op.plan c buffer)
-      go First.Nothing c = next_fills op.plan.next refl (plan_of op k).next_good c
+      go : (f : Option Edit) → rests f op.plan.next ≡ true → Fills op region buffer (advance_first op region f)
+      go (Some d) c = inl (filled_rests op.n op.lent region (Some d) op.plan c buffer)
+      go None c = next_fills op.plan.next refl (plan_of op k).next_good c
 
 pub steps_fill : {op : Op} {y : Reply} {region value buffer : List ℕ} {q : Request} {r b : List ℕ} → Steps op y region value buffer q r b → (b ≡ buffer) ⊎ GetReads op q
 steps_fill unfit = inl refl

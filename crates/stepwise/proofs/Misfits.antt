@@ -9,10 +9,10 @@ use mathlib.Core.Logic.{◌↔◌}
 use lib.Dec.{eqb}
 use lib.ListN.{length}
 use borrow.Author.Tests.{eqb-true, eqb-false, eq-eqb}
+use Rattle.std.specs.Prelude.{Option, Some, None}
 use Rattle.plans.specs.declared.Answer.{Answer}
 use Rattle.plans.specs.declared.Lent.{Lent}
 use Rattle.plans.specs.declared.Edit.{Edit}
-use Rattle.plans.specs.declared.First.{First}
 use Rattle.plans.specs.declared.Then.{Then}
 use Rattle.plans.specs.Writes.{value_lent, first}
 use Rattle.running.specs.declared.Op.{Op}
@@ -51,10 +51,10 @@ edit_asks s len (Edit.Kill how r x) = refl
 edit_asks s len (Edit.Erase r) = refl
 
 -- a reply that comes where one is waited for is a service's, and one is asked for
-fits_asks : (s len key n : ℕ) (f : First) (t : Then) (y : Reply) → reply_fits (wait_first key n f t) y ≡ true
+fits_asks : (s len key n : ℕ) (f : Option Edit) (t : Then) (y : Reply) → reply_fits (wait_first key n f t) y ≡ true
     → (asks (request_for s len (wait_first key n f t)) ≡ true) × (serves y ≡ true)
-fits_asks s len key n (First.Do e) t y h = (edit_asks s len e, h)
-fits_asks s len key n First.Nothing t y h = go (next_awaits key n t) h
+fits_asks s len key n (Some e) t y h = (edit_asks s len e, h)
+fits_asks s len key n None t y h = go (next_awaits key n t) h
   where
     go : {w : Wait} → Awaits w → reply_fits w y ≡ true → (asks (request_for s len w) ≡ true) × (serves y ≡ true)
     go a_region h = (refl, h)
@@ -72,9 +72,9 @@ data Unfit (s len : ℕ) (w : Wait) (y : Reply) : Type 0 where
   late : y ≡ Reply.Begin → Unfit s len w y
   over : {answer : Answer} → request_for s len w ≡ Request.Answers answer → Unfit s len w y
 
-unfits : (s len key n : ℕ) (f : First) (t : Then) (y : Reply) → reply_fits (wait_first key n f t) y ≡ false → Unfit s len (wait_first key n f t) y
-unfits s len key n (First.Do e) t y h = late (no_service y h)
-unfits s len key n First.Nothing t y h = go (next_awaits key n t) h
+unfits : (s len key n : ℕ) (f : Option Edit) (t : Then) (y : Reply) → reply_fits (wait_first key n f t) y ≡ false → Unfit s len (wait_first key n f t) y
+unfits s len key n (Some e) t y h = late (no_service y h)
+unfits s len key n None t y h = go (next_awaits key n t) h
   where
     go : {w : Wait} → Awaits w → reply_fits w y ≡ false → Unfit s len w y
     go a_region h = late (no_service y h)

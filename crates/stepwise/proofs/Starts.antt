@@ -7,11 +7,10 @@ use native.Mathlib.Omega.{arith}
 use mathlib.Core.Path.{◌≡◌, refl, sym, ◌∙◌}
 use mathlib.Core.Bool.{Bool, true, false, cond}
 use lib.ListN.{length}
-use Rattle.std.specs.Prelude.{Result, Ok, Err}
+use Rattle.std.specs.Prelude.{Option, Some, None, Result, Ok, Err}
 use Rattle.probe.proofs.Theorems.{in_range}
 use Rattle.plans.specs.declared.Lent.{Lent}
 use Rattle.plans.specs.declared.Edit.{Edit}
-use Rattle.plans.specs.declared.First.{First}
 use Rattle.plans.specs.declared.Then.{Then}
 use Rattle.plans.specs.Writes.{value_lent, in_region, start_of as begins_at, size_of, first}
 use Rattle.plans.specs.Fits.{then_fits}
@@ -69,10 +68,10 @@ next_asks s n key lent (Then.Gives r x anew) h = answers
 pub inside : (op : Op) → Ruled op → Inside op.s op.n (request_of op)
 inside op k = go op.fresh (first op.plan.edits) refl
   where
-    go : (t : Bool) (f : First) → first op.plan.edits ≡ f
+    go : (t : Bool) (f : Option Edit) → first op.plan.edits ≡ f
         → Inside op.s op.n (request_for op.s (value_lent op.lent) (cond t Wait.Begin (wait_first op.key op.n f op.plan.next)))
     go true f e = answers
-    go false First.Nothing e = next_asks op.s op.n op.key op.lent op.plan.next (plan_of op k).next_good
-    go false (First.Do d) e =
+    go false None e = next_asks op.s op.n op.key op.lent op.plan.next (plan_of op k).next_good
+    go false (Some d) e =
         edit_asks op.s op.n (value_lent op.lent) d
         (edit_facts op.s op.n (value_lent op.lent) d (edits_facts op.s op.n (value_lent op.lent) op.plan.edits (plan_of op k).edits_good e).0)

@@ -6,18 +6,21 @@ use mathlib.Core.Bool.{Bool, true, false, cond, ◌&&◌, true≢false}
 use mathlib.Core.List.{List}
 use lib.Dec.{ltb}
 use lib.ListN.{get_or}
-use Rattle.std.specs.Prelude.{Result, Err, Ok}
+use Rattle.lookup.proofs.Scan.{room_cases}
+use Rattle.plans.specs.declared.Edit.{Edit}
+use Rattle.lookup.specs.declared.Seen.{Seen}
+use Rattle.std.specs.declared.ops.ControlFlow.TheVariants.{Break, Continue}
+use Rattle.std.specs.declared.ops.ControlFlow.{ControlFlow}
+use Rattle.std.specs.Prelude.{Result, Err, Ok, Option, Some, None}
 use Rattle.probe.specs.Probe.{probes}
 use Rattle.format.specs.declared.Removal.{Removal}
 use Rattle.lookup.specs.declared.Room.{Room}
 use Rattle.lookup.specs.declared.Hit.{Hit}
 use Rattle.lookup.specs.declared.Looked.{Looked}
-use Rattle.lookup.specs.declared.Turn.{Turn}
 use Rattle.lookup.specs.Turns.{hit_by, turn_of}
 use Rattle.plans.specs.declared.Aim.{Aim}
 use Rattle.plans.specs.declared.Answer.{Answer}
 use Rattle.plans.specs.declared.Edits.{Edits}
-use Rattle.plans.specs.declared.First.{First}
 use Rattle.plans.specs.declared.Lent.{Lent}
 use Rattle.plans.specs.declared.Plan.{Plan}
 use Rattle.plans.specs.declared.Then.{Then}
@@ -52,10 +55,13 @@ get_few : (hit : Result Hit Refusal) → Few (get_plan hit)
 get_few (Ok h) = refl
 get_few (Err w) = refl
 
-place_few : (room : Room) → Few (place_plan room)
-place_few Room.Nowhere = refl
-place_few (Room.At r o false) = refl
-place_few (Room.At r o true) = refl
+place_few : (room : Option Room) → Few (place_plan room)
+place_few =
+    room_cases
+    (λ room. Few (place_plan room))
+    refl
+    (λ r o. refl)
+    (λ r o. refl)
 
 remove_few : (how : Removal) (hit : Result Hit Refusal) → Few (remove_plan how hit)
 remove_few how (Ok h) = refl
@@ -73,9 +79,9 @@ plan_few Aim.Append n (Looked.Through seen) = by_place Few place_few seen
 plan_few (Aim.Remove how) n looked = remove_few how (hit_by looked)
 plan_few Aim.Initialise n looked = initialise_few n (hit_by looked)
 
-turn_few : (aim : Aim) (n i : ℕ) (turn : Turn) → Few (turned_to aim n i turn)
-turn_few aim n i (Turn.Stop looked) = plan_few aim n looked
-turn_few aim n i (Turn.More seen) = refl
+turn_few : (aim : Aim) (n i : ℕ) (turn : ControlFlow Looked Seen) → Few (turned_to aim n i turn)
+turn_few aim n i (Break looked) = plan_few aim n looked
+turn_few aim n i (Continue seen) = refl
 
 sweep_few : (s n r k : ℕ) (v : Verdict) → Few (sweep_plan s n r k v)
 sweep_few s n r k Verdict.Stands = refl
@@ -92,9 +98,9 @@ advance_few op region h = go (first op.plan.edits)
     on (Then.Sweep r k) = sweep_few op.s op.n r k (verdict r region)
     on (Then.Gives r x again) = refl
 
-    go : (f : First) → Few (advance_first op region f)
-    go (First.Do e) = rest_few op.plan.edits h
-    go First.Nothing = on op.plan.next
+    go : (f : Option Edit) → Few (advance_first op region f)
+    go (Some e) = rest_few op.plan.edits h
+    go None = on op.plan.next
 
 answer_few : (n : ℕ) (again : Bool) (answer : Answer) → Few (given_plan n again answer)
 answer_few n again answer = go (again && starts_anew answer)

@@ -6,11 +6,13 @@ use mathlib.Core.Path.{◌≡◌, refl, sym, ◌∙◌, ap}
 use mathlib.Core.Bool.{true}
 use mathlib.Core.List.{List}
 use lib.ListN.{length}
+use borrow.Author.Tests.{ltb-true}
+use Rattle.std.specs.Prelude.{Option, Some, None}
+use Rattle.chip.specs.Chip.{written}
 use Rattle.chip.specs.Geometry.{Fits}
 use Rattle.chip.proofs.Image.{fits_written, fits_erased}
 use Rattle.plans.specs.declared.Edit.{Edit}
 use Rattle.plans.specs.declared.Edits.{Edits}
-use Rattle.plans.specs.declared.First.{First}
 use Rattle.plans.specs.Writes.{edited, listed, applied, first, rest}
 use Rattle.plans.specs.Fits.{edit_fits, edits_fit}
 use Rattle.plans.proofs.Facts.{edits_facts}
@@ -33,11 +35,11 @@ left_start key value f g = record { fits = f; good = g; same = refl }
 
 module _ {image₀ : List ℕ} {s n : ℕ} {edits : Edits} {key : ℕ} {value image : List ℕ} {left : Edits} (l : Left image₀ s n edits key value image left) where
   -- nothing is left
-  pub left_end : {f : First} → f ≡ first left → f ≡ First.Nothing → image ≡ applied s key value (listed edits) image₀
+  pub left_end : {f : Option Edit} → f ≡ first left → f ≡ None → image ≡ applied s key value (listed edits) image₀
   left_end e h = sym (applied_none s key value image left (sym e ∙ h)) ∙ l.same
 
   -- one more is done
-  module _ {f : First} {e : Edit} (found : f ≡ first left) (h : f ≡ First.Do e) where
+  module _ {f : Option Edit} {e : Edit} (found : f ≡ first left) (h : f ≡ Some e) where
     pub left_fits : edit_fits s n (length value) e ≡ true
     left_fits = (edits_facts s n (length value) left l.good (sym found ∙ h)).0
 

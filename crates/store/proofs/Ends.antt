@@ -3,11 +3,12 @@
 use Prim.Native.Nat.{ℕ, ◌+◌, ◌≤◌}
 use native.Mathlib.Omega.{arith}
 use mathlib.Core.Path.{◌≡◌, refl, sym, ◌∙◌}
-use mathlib.Core.Bool.{Bool, true, false}
+use mathlib.Core.Bool.{Bool, true}
 use mathlib.Core.List.{List, []}
 use lib.ListN.{length}
 use borrow.Author.Tests.{lt-ltb}
-use Rattle.std.specs.Prelude.{Result, Ok}
+use Rattle.lookup.specs.Gather.{some_room}
+use Rattle.std.specs.Prelude.{Result, Ok, Option, Some}
 use Rattle.chip.specs.Geometry.{Fits}
 use Rattle.probe.specs.Probe.{probes}
 use Rattle.format.specs.declared.Record.{Record}
@@ -15,13 +16,12 @@ use Rattle.format.specs.declared.Removal.{Removal}
 use Rattle.format.specs.Layout.{record_length, kill_place, kill_bytes}
 use Rattle.format.proofs.Killed.{kill_length_lem}
 use Rattle.refusals.specs.declared.Refusal.{Refusal}
-use Rattle.lookup.specs.declared.Need.{Need}
 use Rattle.lookup.specs.declared.Room.{Room}
 use Rattle.lookup.specs.declared.Looked.{Looked}
 use Rattle.lookup.specs.declared.Hit.{Hit}
 use Rattle.refusals.specs.Refusals.{first_refusal}
 use Rattle.lookup.specs.Turns.{lookup_in, hit_of, hits}
-use Rattle.lookup.proofs.Scan.{fine}
+use Rattle.lookup.proofs.Scan.{room_cases, fine}
 use Rattle.lookup.proofs.Ends.{Placed, held, placed_at}
 use Rattle.plans.specs.declared.Plan.{Plan}
 use Rattle.plans.specs.Fits.{edits_fit}
@@ -39,7 +39,7 @@ module _ (image : List ℕ) (s n key : ℕ) (value : List ℕ) {check : Result (
   pub append_allowed : Fits image s n × (length value ≤ 4079)
   append_allowed = let (f, _, short) = fine image s n key (length value) (sym checked ∙ passed) in (f, short)
 
-  module _ {looked : Looked} {p : Plan} (looks : looked ≡ lookup_in key (Need.Room (record_length (length value))) s image (probes key n)) (planned : p ≡ append_plan looked) where
+  module _ {looked : Looked} {p : Plan} (looks : looked ≡ lookup_in key (Some (record_length (length value))) s image (probes key n)) (planned : p ≡ append_plan looked) where
     pub append_is : carried s key value image p ≡ append_of image s n key value
     unfolding append_of
     append_is = rw (planned, looks, sym checked ∙ passed)
@@ -48,13 +48,17 @@ module _ (image : List ℕ) (s n key : ℕ) (value : List ℕ) {check : Result (
     pub append_fits : edits_fit s n (length value) p.edits ≡ true
     append_fits = rw planned (go looked (sym looks))
       where
-        placed : (place : Room) → ((r o : ℕ) (blank : Bool) → place ≡ Room.At r o blank → Placed image s n (record_length (length value)) r o)
+        placed : (place : Option Room) → ((r o : ℕ) (blank : Bool) → place ≡ some_room r o blank → Placed image s n (record_length (length value)) r o)
             → edits_fit s n (length value) (place_plan place).edits ≡ true
-        placed Room.Nowhere h = refl
-        placed (Room.At r o false) h = refl
-        placed (Room.At r o true) h = let q = h r o true refl in place_fits_lem s n (length value) r o (q.number, q.enough)
+        placed =
+            room_cases
+            (λ place. ((r o : ℕ) (blank : Bool) → place ≡ some_room r o blank → Placed image s n (record_length (length value)) r o)
+            → edits_fit s n (length value) (place_plan place).edits ≡ true)
+            (λ h. refl)
+            (λ r o h. refl)
+            (λ r o h. let q = h r o true refl in place_fits_lem s n (length value) r o (q.number, q.enough))
 
-        go : (l : Looked) → lookup_in key (Need.Room (record_length (length value))) s image (probes key n) ≡ l → edits_fit s n (length value) (append_plan l).edits ≡ true
+        go : (l : Looked) → lookup_in key (Some (record_length (length value))) s image (probes key n) ≡ l → edits_fit s n (length value) (append_plan l).edits ≡ true
         go (Looked.Live r x) e = refl
         go (Looked.Bad g o) e = refl
         go (Looked.Through seen) e = placed _ (λ r o blank k. (placed_at image s n key (record_length (length value)) r o blank seen append_allowed.0 e k).0)

@@ -1,11 +1,10 @@
 -- Append, the two removals and initialise in one call: for any image, S, N, key and value, what each answers and leaves.
-use Rattle.std.specs.Prelude.{ℕ, ◌*◌, cond, List, [], length, Result, Ok, Err}
+use Rattle.std.specs.Prelude.{ℕ, ◌*◌, cond, List, [], length, Result, Ok, Err, Some}
 use Rattle.chip.specs.Chip.{erased}
 use Rattle.probe.specs.Probe.{probes}
 use Rattle.format.specs.declared.Removal.{Removal}
 use Rattle.format.specs.Layout.{record_length}
 use Rattle.refusals.specs.declared.Refusal.{Refusal}
-use Rattle.lookup.specs.declared.Need.{Need}
 use Rattle.lookup.specs.declared.Looked.{Looked}
 use Rattle.lookup.specs.declared.Hit.{Hit}
 use Rattle.refusals.specs.Refusals.{first_refusal}
@@ -49,7 +48,7 @@ append_by s image key value looked = carried s key value image (append_plan look
 abbrev pub append_after : List ℕ → ℕ → ℕ → ℕ → List ℕ → Result (Unit {0}) Refusal → Done
 append_after image s n key value (Err w) = refused w image
 append_after image s n key value (Ok u) =
-    append_by s image key value (lookup_in key (Need.Room (record_length (length value))) s image (probes key n))
+    append_by s image key value (lookup_in key (Some (record_length (length value))) s image (probes key n))
 
 -- R5.3, R5.4: append in one call.
 unfoldable pub append_of : List ℕ → ℕ → ℕ → ℕ → List ℕ → Done

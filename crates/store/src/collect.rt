@@ -14,24 +14,18 @@ pub fn garbage_collect(image: &mut [u8], s: usize, n: usize) -> Answer
         return Answer::Refused(Refusal::BadGeometry);
     }
     let mut freed: usize = 0;
-    let mut r: usize = 0;
-    loop {
-        if r >= n {
-            break Answer::Freed(freed);
-        }
+    for r in 0..n {
         let a = r * s;
         let e = a + s;
         let verdict = sweeping::judge(r, &image[a..e]);
         match verdict {
-            Verdict::Stands => {
-                r += 1;
-            }
+            Verdict::Stands => {}
             Verdict::Erase => {
                 chip::erase_region(image, s, n, r);
                 freed += s;
-                r += 1;
             }
-            Verdict::Bad { fault, place: _ } => break Answer::Refused(fault.into()),
+            Verdict::Bad { fault, place: _ } => return Answer::Refused(fault.into()),
         }
     }
+    Answer::Freed(freed)
 }

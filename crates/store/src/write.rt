@@ -7,8 +7,7 @@ ghost use Rattle.plans.specs.Fits.{edit_fits, edits_fit};
 ghost use Rattle.store.specs.Write.{end_of, carried, append_of, remove_of, initialise_of};
 
 use format::{Record, Removal};
-use lookup::Need;
-use plans::{Answer, Edit, Edits, First, Plan, Then};
+use plans::{Answer, Edit, Edits, Plan, Then};
 use refusals::Refusal;
 
 // One edit of an image.
@@ -35,17 +34,9 @@ fn make_edits(image: &mut [u8], s: usize, n: usize, edits: Edits, key: u64, valu
     ensures { image.new ≡ applied s key value.now (listed edits) image.old }
 {
     let mut left = edits;
-    loop {
-        let first = plans::first_of(left);
-        match first {
-            First::Nothing => {
-                return;
-            }
-            First::Do(edit) => {
-                make_edit(image, s, n, edit, key, value);
-                left = plans::rest_of(left);
-            }
-        }
+    while let Some(edit) = plans::first_of(left) {
+        make_edit(image, s, n, edit, key, value);
+        left = plans::rest_of(left);
     }
 }
 
@@ -78,7 +69,7 @@ pub fn append_key(image: &mut [u8], s: usize, n: usize, key: u64, value: &[u8]) 
     if let Err(refusal) = check {
         return Answer::Refused(refusal);
     }
-    let need = Need::Room(value.len() + Record::LEAST);
+    let need = Some(value.len() + Record::LEAST);
     let looked = lookup::look_up(&image[..], s, n, key, need);
     let plan = planning::append_plan(looked);
     carry_out(image, s, n, plan, key, value)

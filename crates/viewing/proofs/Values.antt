@@ -10,7 +10,7 @@ use lib.Dec.{ltb}
 use lib.ListN.{length, take, drop, length-drop}
 use lib.Seq.{take-take, drop-drop, length-take-le}
 use borrow.Author.Tests.{ltb-true, le-ltb}
-use Rattle.std.specs.Prelude.{Result, Ok, Err}
+use Rattle.std.specs.Prelude.{Result, Ok, Err, None}
 use Rattle.chip.specs.Geometry.{geometry, region_of}
 use Rattle.probe.specs.Probe.{allowed_key, probes}
 use Rattle.chip.proofs.Lists.{drop-take}
@@ -20,7 +20,6 @@ use Rattle.format.specs.declared.Fault.TheVariants.{UnsupportedVersion, CorruptD
 use Rattle.region.specs.Walk.{value_length, value_in}
 use Rattle.refusals.specs.declared.Refusal.{Refusal}
 use Rattle.refusals.specs.Refusals.{value_of as carried, refusal_of, first_refusal}
-use Rattle.lookup.specs.declared.Need.{Need}
 use Rattle.lookup.specs.declared.Looked.{Looked}
 use Rattle.lookup.specs.declared.Hit.{Hit}
 use Rattle.lookup.specs.Turns.{lookup_in, hit_by, hit_after, hit_of, hits}
@@ -117,7 +116,7 @@ not_odd_after : (image : List ℕ) (s n key : ℕ) (a b c : Bool)
 not_odd_after image s n key false b c = refl
 not_odd_after image s n key true false c = refl
 not_odd_after image s n key true true true = refl
-not_odd_after image s n key true true false = not_odd_looked s image (lookup_in key Need.Nothing s image (probes key n))
+not_odd_after image s n key true true false = not_odd_looked s image (lookup_in key None s image (probes key n))
 
 companion_not_odd : (image : List ℕ) (s n key : ℕ) → odd (companion_of image s n key) ≡ []
 unfolding located_of hit_of first_refusal

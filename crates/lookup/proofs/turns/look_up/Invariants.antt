@@ -1,6 +1,5 @@
 -- `lookup::turns::look_up` meets its contract. The loop's invariant: the regions that are left, with what is gathered, decide as all do.
--- The measure is how many regions are left. Assumes nothing.
-use Prim.Native.Nat.{◌≤◌, ◌-◌}
+-- Assumes nothing.
 use mathlib.Core.Path.{◌≡◌}
 use lib.ListN.{drop}
 use Rattle.probe.specs.Probe.{probes}
@@ -8,7 +7,4 @@ use Rattle.lookup.specs.Turns.{look_from, lookup_in}
 use Rattle.lookup.proofs.turns.look_up.Given as goal
 
 abbrev pub invariant-loop-i : goal.invariant-loop-i
-invariant-loop-i l = (l.i ≤ l.n) × (look_from l.seen l.key l.need l.s l.image (drop l.i (probes l.key l.n)) ≡ lookup_in l.key l.need l.s l.image (probes l.key l.n))
-
-abbrev pub decreases-loop-i : goal.decreases-loop-i
-decreases-loop-i l = l.n - l.i
+invariant-loop-i l = look_from l.seen l.key l.need l.s l.image (drop l.i (probes l.key l.n)) ≡ lookup_in l.key l.need l.s l.image (probes l.key l.n)

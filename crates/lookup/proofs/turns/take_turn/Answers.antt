@@ -2,8 +2,8 @@
 -- Assumes nothing.
 use native.Mathlib.Omega.{arith}
 use mathlib.Core.Path.{sym, ◌∙◌, ap}
+use Rattle.std.specs.declared.ops.ControlFlow.TheVariants.{Continue}
 use Rattle.region.specs.declared.Stop.{Stop}
-use Rattle.lookup.specs.declared.Turn.{Turn}
 use Rattle.lookup.proofs.Scan.{within}
 use Rattle.lookup.proofs.turns.take_turn.Goals as goal
 
@@ -20,4 +20,4 @@ pub returns-in-Bad : goal.returns-in-Bad
 returns-in-Bad c = rw (sym c.find-event.ensures ∙ c.in-Bad.is)
 
 pub returns-in-End : goal.returns-in-End
-returns-in-End c = rw (sym c.find-event.ensures ∙ c.in-End.is) (ap Turn.More c.note.ensures)
+returns-in-End c = rw (sym c.find-event.ensures ∙ c.in-End.is) (ap Continue c.note.ensures)

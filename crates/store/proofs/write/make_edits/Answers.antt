@@ -7,11 +7,11 @@ use Rattle.store.proofs.write.make_edits.Goals as goal
 pub loop-edit-init : goal.loop-edit-init
 loop-edit-init c = left_start c.args.key c.args.value.now c.requires.0 c.requires.2
 
-pub returns-in-Nothing : goal.returns-in-Nothing
-returns-in-Nothing c = search (left_end, rules)
+pub returns : goal.returns
+returns c = search (left_end, rules)
 
 pub make_edit-requires : goal.make_edit-requires
-make_edit-requires c = let l = c.loop-edit.invariant in (l.fits, c.requires.1, left_fits l c.first_of-first.ensures c.in-Do.is)
+make_edit-requires c = let l = c.loop-edit.invariant in (l.fits, c.requires.1, left_fits l c.first_of.ensures c.in-Some.is)
 
 pub loop-edit-smaller : goal.loop-edit-smaller
 loop-edit-smaller c = search (left_less, rules)
