@@ -76,7 +76,7 @@ others_same s {image'} {image} r w q d = go (dec_lt q r)
     go (yes l) = part_before image' image (r * s) (q * s) s w.before (omega (arith, mul-le-mul_right s l))
     go (no l) = let m : suc r ≤ q = omega arith in part_after image' image (r * s + s) (q * s) s w.after (omega (arith, mul-le-mul_right s m))
 
-module _ {g : List ℕ → ℕ → List ℕ → List ℕ} (run : Run g) (s r : ℕ) (image : List ℕ) (o : ℕ) (b : List ℕ) (h : o + length b ≤ s) where
+module _ {byte : ℕ → ℕ → ℕ} {g : List ℕ → ℕ → List ℕ → List ℕ} (run : Run byte g) (s r : ℕ) (image : List ℕ) (o : ℕ) (b : List ℕ) (h : o + length b ≤ s) where
   region_run_same : region_of s (g image (r * s + o) b) r ≡ g (region_of s image r) o b
   region_run_same = run_part run image (r * s) s o b h
 

@@ -1,6 +1,6 @@
 -- A write, a byte at a time; a blank part, a byte at a time; where a write leaves the new bytes as they are; and that AND adds no bit.
 -- Assumes nothing.
-use Prim.Native.Nat.{ℕ, zero, suc, ◌+◌, ◌*◌, ◌/◌, ◌%◌, ◌^◌, ◌≤◌, ◌<◌, min}
+use Prim.Native.Nat.{ℕ, zero, suc, ◌+◌, ◌*◌, ◌/◌, ◌%◌, ◌^◌, ◌<◌, min}
 use native.Mathlib.Nat.{add-zero}
 use native.Mathlib.Omega.{arith}
 use mathlib.Core.Path.{◌≡◌, refl, sym, ◌∙◌, ap}
@@ -9,27 +9,17 @@ use mathlib.Core.List.{List, [], ◌∷◌, ◌++◌}
 use lib.Arith.{bin_ind}
 use lib.Bits.{bit_and, and_step, and_comm, and_mask, and_block, and_zero_r, and_self}
 use lib.Dec.{eqb}
-use lib.ListN.{length, get_or, take, drop, set, length-set}
+use lib.ListN.{length, get_or, take, set}
 use lib.Seq.{sets, get_or-set_other}
 use borrow.Author.Tests.{eq-eqb, eqb-true}
-use Rattle.std.specs.Prelude.{IsTrue, EachIndex, ◌↔◌}
+use Rattle.std.specs.Prelude.{fold}
 use Rattle.chip.specs.Chip.{Bytes, written, erased, is_blank}
-use Rattle.chip.proofs.Runs.{written_run, run_one, run_none}
+use Rattle.chip.proofs.Runs.{written_run, run_length}
 
 -- A write.
 
 pub length-written : (image : List ℕ) (at : ℕ) (new : List ℕ) → length (written image at new) ≡ length image
-unfolding written
-length-written image at [] = refl
-length-written image at (b ∷ new) = length-written (set image at _) (suc at) new ∙ length-set image at _
-
-pub written_one : (image new : List ℕ) (at i : ℕ) → i < length new
-    → written (set image (at + i) (bit_and (get_or image (at + i) 0) (get_or new i 0))) (at + (i + 1)) (drop (i + 1) new) ≡ written image (at + i) (drop i new)
-unfolding written_run
-written_one image new at i h = run_one written_run image new at i h
-
-pub written_none : (image new : List ℕ) (at i : ℕ) → length new ≤ i → written image at (drop i new) ≡ image
-written_none image new at i h = run_none written_run image new at i h
+length-written = run_length written_run
 
 -- A list of bytes: each below 256.
 
@@ -132,11 +122,16 @@ unfolding is_blank
 blank_erased zero = refl
 blank_erased (suc n) = blank_erased n
 
--- what says that every byte is 255 exactly where that is so
-pub blank_each : (part : List ℕ) (b : Bool) → (IsTrue b ↔ EachIndex part (λ k. get_or part k 0 ≡ 255)) → b ≡ is_blank part
-blank_each part true h = sym (at_blank part (h.0 refl))
-blank_each part false h = go (is_blank part) refl
+-- each byte in turn, where t is what those before it say
+pub blank_folded : (part : List ℕ) (b : Bool) → b ≡ fold (λ (t : Bool) (x : ℕ). t && eqb x 255) true part → b ≡ is_blank part
+unfolding is_blank
+blank_folded part b e = e ∙ go true part
   where
-    go : (t : Bool) → is_blank part ≡ t → false ≡ t
-    go true e = h.1 (blank_at_lem part e)
-    go false e = refl
+    none : (part : List ℕ) → fold (λ (t : Bool) (x : ℕ). t && eqb x 255) false part ≡ false
+    none [] = refl
+    none (x ∷ part) = none part
+
+    go : (t : Bool) (part : List ℕ) → fold (λ (t : Bool) (x : ℕ). t && eqb x 255) t part ≡ (t && is_blank part)
+    go true [] = refl
+    go true (x ∷ part) = go (eqb x 255) part
+    go false part = none part

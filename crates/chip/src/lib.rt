@@ -3,12 +3,14 @@
 #![tactic(auto)]
 
 mod geometry;
+mod landing;
 mod regions;
 
 ghost use Rattle.std.specs.Prelude.{◌≡◌, ◌+◌, ◌≤◌, length, replicate};
 ghost use Rattle.chip.specs.Chip.{written, erased, is_blank};
 
 pub use geometry::{LARGEST_SIZE, LEAST_SIZE, MOST_REGIONS, erase_region, fits, is_sized};
+pub use landing::{Laid, Landing, Written, land};
 pub use regions::Chip;
 
 // What an erase leaves in every byte.
@@ -19,9 +21,7 @@ pub fn write(image: &mut [u8], at: usize, new: &[u8])
     requires { at + length new.now ≤ length image.old }
     ensures { image.new ≡ written image.old at new.now }
 {
-    for (i, byte) in new.iter().enumerate() {
-        image[at + i] &= *byte;
-    }
+    land::<Written>(image, at, new);
 }
 
 // Every byte of a part becomes one value.
@@ -38,9 +38,10 @@ pub fn erase(region: &mut [u8])
     fill(region, BLANK);
 }
 
-// Whether every byte is as an erase leaves it.
+// Whether every byte is as an erase leaves it. Unlike `all` the fold stops at no byte, and so tests many at a time.
 pub fn is_blank(part: &[u8]) -> bool
     ensures { result ≡ is_blank part.now }
 {
-    part.iter().all(|byte| *byte == BLANK)
+    part.iter()
+        .fold(true, |blank, byte| blank & (*byte == BLANK))
 }

@@ -6,6 +6,7 @@ ghost use Rattle.plans.specs.Writes.{value_lent, value_of, laid_in};
 ghost use Rattle.plans.specs.Fits.{edit_fits};
 ghost use Rattle.laying.specs.Lend.{laid, laid_on};
 
+use chip::Laid;
 use plans::{Edit, Lent};
 use running::{Reply, RuledOp};
 
@@ -15,10 +16,10 @@ fn lay_new(key: u64, lent: Lent, at: usize, region: &mut [u8], value: &[u8])
     ensures { region.new ≡ sets region.old at (record_bytes key (value_of lent value.now)) }
 {
     let Lent::Value(_) = lent else {
-        placing::lay_record(region, at, key, b"");
+        placing::land_record::<Laid>(region, at, key, b"");
         return;
     };
-    placing::lay_record(region, at, key, value);
+    placing::land_record::<Laid>(region, at, key, value);
 }
 
 // The bytes of an edit, at their own place in the region.
@@ -35,7 +36,7 @@ fn lay_edit(key: u64, lent: Lent, edit: Edit, n: usize, region: &mut [u8], value
             region: _,
             rec,
         } => {
-            placing::lay_kill(region, how, rec);
+            placing::land_kill::<Laid>(region, rec.at, how, rec);
         }
         Edit::Erase { region: _ } => {}
     }

@@ -6,6 +6,7 @@ ghost use Rattle.std.specs.Prelude.{[], ◌∷◌, ◌++◌, ◌≡◌, ◌+◌,
 ghost use Rattle.lines.specs.Text.{space, field, state, key_field, line_of, bad_line, header_line, refused_line};
 ghost use Rattle.lines.specs.Pages.{HasRoom, Puts};
 
+use chip::Laid;
 use format::Record;
 
 // A buffer that is filled from its first byte on, and the place behind the last line: so many of its bytes are text.
@@ -28,7 +29,7 @@ impl<'a> Page<'a> {
         requires { HasRoom self.old (length bytes.now) }
         ensures { Puts self.old bytes.now self.new }
     {
-        placing::lay(self.out, self.at, bytes);
+        chip::land::<Laid>(self.out, self.at, bytes);
         self.at += bytes.len();
     }
 

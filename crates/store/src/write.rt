@@ -6,6 +6,7 @@ ghost use Rattle.plans.specs.Writes.{listed, edited, applied};
 ghost use Rattle.plans.specs.Fits.{edit_fits, edits_fit};
 ghost use Rattle.store.specs.Write.{end_of, carried, append_of, remove_of, initialise_of};
 
+use chip::Written;
 use format::{Record, Removal};
 use plans::{Answer, Edit, Edits, Plan, Then};
 use refusals::Refusal;
@@ -17,10 +18,10 @@ fn make_edit(image: &mut [u8], s: usize, n: usize, edit: Edit, key: u64, value: 
 {
     match edit {
         Edit::Lay { region, at } => {
-            placing::write_record(image, region * s + at, key, value);
+            placing::land_record::<Written>(image, region * s + at, key, value);
         }
         Edit::Kill { how, region, rec } => {
-            placing::write_kill(image, region * s + rec.at, how, rec);
+            placing::land_kill::<Written>(image, region * s + rec.at, how, rec);
         }
         Edit::Erase { region } => {
             chip::erase_region(image, s, n, region);

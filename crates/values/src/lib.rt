@@ -5,6 +5,7 @@
 ghost use Rattle.std.specs.Prelude.{◌≡◌};
 ghost use Rattle.values.specs.Values.{read_answer, read_buffer};
 
+use chip::Laid;
 use plans::Answer;
 use refusals::Refusal;
 use region::Standing;
@@ -30,5 +31,5 @@ pub fn copy_value(found: &Standing, buffer: &mut [u8])
 {
     let value = found.value();
     let most = value.len().min(buffer.len());
-    placing::lay(buffer, 0, &value[..most]);
+    chip::land::<Laid>(buffer, 0, &value[..most]);
 }

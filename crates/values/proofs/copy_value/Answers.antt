@@ -7,4 +7,4 @@ use Rattle.values.proofs.copy_value.Goals as goal
 pub returns : goal.returns
 returns c =
     let v = c.value-value in
-    rw (c.lay.ensures, c.min-most.ensures, front_copied v.result.now c.args.buffer.now, v.ensures.size, v.ensures.bytes) refl
+    rw (c.land.ensures, c.min-most.ensures, front_copied v.result.now c.args.buffer.now, v.ensures.size, v.ensures.bytes) refl
