@@ -9,8 +9,7 @@ ghost use Rattle.crc32.specs.Crc.{Table, entry, feed, run, finish, checksum};
 pub fn checksum(bytes: &[u8]) -> u32
     ensures { result ≡ checksum bytes.now }
 {
-    let table = table();
-    finalise(update(&table, 0, bytes))
+    finalise(update(0, bytes))
 }
 
 // The checksum of `header` with `value` behind it. The two lie in different buffers while a record
@@ -18,44 +17,40 @@ pub fn checksum(bytes: &[u8]) -> u32
 pub fn checksum_of_two(header: &[u8], value: &[u8]) -> u32
     ensures { result ≡ checksum (header.now ++ value.now) }
 {
-    let table = table();
-    finalise(update(&table, update(&table, 0, header), value))
+    finalise(update(update(0, header), value))
 }
 
-// The table. A constant is no static data: it is laid out anew in each call of a function that
-// names it. So a sum takes the table once, here, and lends it to what is done for each byte.
-fn table() -> [u32; 256]
-    ensures { Table result }
+// The table. A constant that is borrowed is static data, so nothing is laid out for a sum.
+fn table() -> &'static [u32; 256]
+    ensures { Table result.now }
 {
-    CRC_TABLE
+    &CRC_TABLE
 }
 
 // The state after `bytes`, from the state `crc`.
-fn update(table: &[u32; 256], crc: u32, bytes: &[u8]) -> u32
-    requires { Table table.now }
+fn update(crc: u32, bytes: &[u8]) -> u32
     ensures { result ≡ run crc bytes.now }
 {
     let mut state = crc;
     for byte in bytes {
-        state = step(table, state, *byte);
+        state = step(state, *byte);
     }
     state
 }
 
 // The state after one byte.
-fn step(table: &[u32; 256], crc: u32, byte: u8) -> u32
-    requires { Table table.now }
+fn step(crc: u32, byte: u8) -> u32
     ensures { result ≡ feed crc byte }
 {
-    table_entry(table, byte as u32 ^ crc >> 24) ^ (crc << 8)
+    table_entry(byte as u32 ^ crc >> 24) ^ (crc << 8)
 }
 
 // The word of one byte value. The index stays as wide as the state: to narrow it would cost an instruction for each byte.
-fn table_entry(table: &[u32; 256], index: u32) -> u32
-    requires { Table table.now × (index < 256) }
+fn table_entry(index: u32) -> u32
+    requires { index < 256 }
     ensures { result ≡ entry index }
 {
-    table[index as usize]
+    table()[index as usize]
 }
 
 // The checksum that the state `crc` stands for.

@@ -8,7 +8,7 @@ use Rattle.crc32.proofs.step.Goals as goal
 
 -- a byte and the state's top eight bits make a byte's value
 pub table_entry-requires : goal.table_entry-requires
-table_entry-requires c = (search rules, xor_lt 8 c.args.byte _ (omega arith) (omega arith))
+table_entry-requires c = xor_lt 8 c.args.byte _ (omega arith) (omega arith)
 
 pub returns : goal.returns
 returns c = search (byte_step, rules)

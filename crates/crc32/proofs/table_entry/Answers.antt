@@ -3,4 +3,4 @@
 use Rattle.crc32.proofs.table_entry.Goals as goal
 
 pub returns : goal.returns
-returns c = c.requires.0.word _ c.requires.1
+returns c = c.table.ensures.word _ c.requires
