@@ -1,6 +1,6 @@
 -- The answers of the store, by their numbers and what they carry.
-use Rattle.std.specs.Prelude.{ℕ, Bool, ◌&&◌, ◌||◌, List, [], ◌∷◌, eqb, leb}
-use Rattle.refusals.specs.Refusals.{number, value_of}
+use Rattle.std.specs.Prelude.{ℕ, Bool, ◌&&◌, ◌||◌, List, [], ◌∷◌, ◌++◌, eqb, leb, codes, decimal}
+use Rattle.refusals.specs.Refusals.{number, value_of, text_of}
 use Rattle.plans.specs.declared.Answer.{Answer}
 use Rattle.plans.specs.declared.Answer.TheVariants.{Complete, Written, Freed, Refused}
 
@@ -25,3 +25,10 @@ number_starts_anew k = eqb k 4 || (leb 7 k && leb k 10)
 -- R5.9: whether initialise erases every region after this answer of its get.
 abbrev pub starts_anew : Answer → Bool
 starts_anew answer = number_starts_anew (refusal answer)
+
+-- R7.1: an answer as it is printed: its name, and behind it what it carries; a refusal's number stands before its name.
+abbrev pub text : Answer → List ℕ
+text (Complete len) = codes "complete " ++ decimal len
+text Written = codes "written"
+text (Freed bytes) = codes "freed " ++ decimal bytes
+text (Refused w) = codes "refused " ++ decimal (number w) ++ codes " " ++ text_of w

@@ -3,6 +3,7 @@
 #![tactic(auto)]
 
 mod answers;
+mod display;
 mod fits;
 mod writes;
 
@@ -17,7 +18,7 @@ use refusals::Refusal;
 pub use writes::{ends_with, first_of, refuse, rest_of};
 
 // R7.1: what a call answers.
-#[derive(Clone, Copy)]
+#[derive(Clone, Copy, PartialEq, Eq)]
 pub enum Answer {
     // With the value's length, 0 from initialise.
     Complete(usize),

@@ -1,5 +1,5 @@
 -- The refusals of the store, by their numbers, and those that come before anything is read.
-use Rattle.std.specs.Prelude.{ℕ, Bool, not, cond, List, [], ◌∷◌, ltb, Result, Ok, Err}
+use Rattle.std.specs.Prelude.{ℕ, Bool, not, cond, List, [], ◌∷◌, ◌++◌, ltb, Result, Ok, Err, codes, decimal}
 use Rattle.chip.specs.Geometry.{geometry}
 use Rattle.probe.specs.Probe.{allowed_key}
 use Rattle.format.specs.declared.Fault.{Fault}
@@ -54,3 +54,18 @@ value_of (Refusal.BufferTooSmall len) = len ∷ []
 value_of Refusal.InvalidCheckSum = []
 value_of Refusal.BadCall = []
 value_of Refusal.FlashFailed = []
+
+-- R6.1 to R6.12: a refusal as it is printed: its name, and behind it the number that it carries.
+abbrev pub text_of : Refusal → List ℕ
+text_of Refusal.BadGeometry = codes "BadGeometry"
+text_of Refusal.BadKey = codes "BadKey"
+text_of Refusal.ObjectTooLarge = codes "ObjectTooLarge"
+text_of Refusal.KeyNotFound = codes "KeyNotFound"
+text_of Refusal.KeyAlreadyExists = codes "KeyAlreadyExists"
+text_of Refusal.FlashFull = codes "FlashFull"
+text_of Refusal.UnsupportedVersion = codes "UnsupportedVersion"
+text_of Refusal.CorruptData = codes "CorruptData"
+text_of (Refusal.BufferTooSmall len) = codes "BufferTooSmall " ++ decimal len
+text_of Refusal.InvalidCheckSum = codes "InvalidCheckSum"
+text_of Refusal.BadCall = codes "BadCall"
+text_of Refusal.FlashFailed = codes "FlashFailed"

@@ -2,13 +2,15 @@
 
 #![tactic(auto)]
 
+mod display;
+
 ghost use Rattle.std.specs.Prelude.{◌≡◌, get_or};
 ghost use Rattle.refusals.specs.Refusals.{number, value_of, refusal_of, refusal_under, first_refusal};
 
 use format::{Fault, Record};
 
 // R6.1 to R6.12: the refusals, in the order of their numbers, 1 to 12.
-#[derive(Clone, Copy)]
+#[derive(Clone, Copy, PartialEq, Eq)]
 pub enum Refusal {
     BadGeometry,
     BadKey,

@@ -80,7 +80,7 @@ pub enum Wait {
 
 // R8.4: what a step asks of the host: to read a region into the buffer, to write the buffer's bytes from a place up to another at an image place,
 // or to erase a region; or its answer.
-#[derive(Clone, Copy)]
+#[derive(Clone, Copy, PartialEq, Eq)]
 pub enum Request {
     Read {
         region: usize,
