@@ -1,64 +1,43 @@
 // The day's calls: a line for each, with what the store answers.
-use crate::flash::Image;
-use crate::{flash, print};
+use crate::flash;
+use crate::flash::Chip;
+use crate::print::Said;
+use plans::Answer;
+use std::io;
 
-pub fn heading() {
-    report::line(b"time   call          key  bytes  home  answer");
+pub fn heading(rt: &impl Print) -> io::Result<()> {
+    println!(rt; "time   call          key  bytes  home  answer")
 }
 
-pub fn initialise(time: &[u8], image: &mut Image, key: u64) {
-    without_value(time, b"initialise", key);
-    let answer = store::initialise(image, flash::S, flash::N, key);
-    print::answer(answer);
-    report::line(b"");
+// An append, whose line has the value's length.
+pub fn append(
+    rt: &impl Print,
+    time: &str,
+    chip: &mut Chip,
+    key: u64,
+    value: &str,
+) -> io::Result<()> {
+    let home = probe::get_region(key, flash::N);
+    let answer = Said(chip.append(key, value.as_bytes()));
+    println!(rt;
+        "{time}  append    {key:>7}{:>7}{home:>6}  {answer}",
+        value.len()
+    )
 }
 
-pub fn append(time: &[u8], image: &mut Image, key: u64, value: &[u8]) {
-    call(time, b"append    ", key);
-    print::column(value.len(), 7);
-    home(key);
-    let answer = store::append_key(image, flash::S, flash::N, key, value);
-    print::answer(answer);
-    report::line(b"");
-}
-
-pub fn invalidate(time: &[u8], image: &mut Image, key: u64) {
-    without_value(time, b"invalidate", key);
-    let answer = store::invalidate_key(image, flash::S, flash::N, key);
-    print::answer(answer);
-    report::line(b"");
-}
-
-pub fn zeroise(time: &[u8], image: &mut Image, key: u64) {
-    without_value(time, b"zeroise   ", key);
-    let answer = store::zeroise_key(image, flash::S, flash::N, key);
-    print::answer(answer);
-    report::line(b"");
+// A call without a value.
+pub fn call(rt: &impl Print, time: &str, what: &str, key: u64, answer: Answer) -> io::Result<()> {
+    let home = probe::get_region(key, flash::N);
+    println!(rt;
+        "{time}  {what:<10}{key:>7}       {home:>6}  {}",
+        Said(answer)
+    )
 }
 
 // Collect has no key.
-pub fn collect(time: &[u8], image: &mut Image) {
-    report::text(time);
-    report::text(b"  collect                         ");
-    let answer = store::garbage_collect(image, flash::S, flash::N);
-    print::answer(answer);
-    report::line(b"");
-}
-
-fn without_value(time: &[u8], what: &[u8], key: u64) {
-    call(time, what, key);
-    report::text(b"       ");
-    home(key);
-}
-
-fn call(time: &[u8], what: &[u8], key: u64) {
-    report::text(time);
-    report::text(b"  ");
-    report::text(what);
-    print::key(key, 7);
-}
-
-fn home(key: u64) {
-    print::column(probe::get_region(key, flash::N), 6);
-    report::text(b"  ");
+pub fn collect(rt: &impl Print, time: &str, chip: &mut Chip) -> io::Result<()> {
+    println!(rt;
+        "{time}  collect                         {}",
+        Said(chip.collect())
+    )
 }

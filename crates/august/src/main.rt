@@ -12,7 +12,9 @@ mod old_lookup;
 mod print;
 mod table;
 
-use flash::Image;
+use flash::Chip;
+use print::Said;
+use std::io;
 
 // The main key, and the keys of the white balance of three cameras.
 const MAIN: u64 = 1000;
@@ -23,98 +25,115 @@ const CAMERA_2: u64 = 201;
 
 const CAMERA_3: u64 = 301;
 
-fn main() {
-    // A chip on which nothing was stored, and which was not erased either.
-    let mut image = [0u8; 512];
-    heading(&image);
-    morning(&mut image);
-    afternoon(&mut image);
-    look_up_all(&image);
-    evening(&mut image);
-    if all_kept(&image) {
-        report::line(b"Nothing was lost.");
+fn main(rt: HostRuntime) -> io::Result<()> {
+    let mut chip = flash::new_chip();
+    heading(&rt)?;
+    morning(&rt, &mut chip)?;
+    afternoon(&rt, &mut chip)?;
+    look_up_all(&rt, &chip)?;
+    evening(&rt, &mut chip)?;
+    if all_kept(&rt, &chip)? {
+        println!(rt; "Nothing was lost.")?;
     } else {
-        report::line(b"SOMETHING WAS LOST.");
+        println!(rt; "SOMETHING WAS LOST.")?;
     }
-    append_twice(&mut image);
+    append_twice(&rt, &mut chip)
 }
 
-fn heading(image: &[u8]) {
-    report::line(b"A day in August: a correction spills into the next region, and is found.");
-    report::text(b"The chip: N ");
-    print::number(flash::N);
-    report::text(b" regions of S ");
-    print::number(flash::S);
-    report::text(b" bytes, ");
-    print::number(image.len());
-    report::line(b" bytes in all.");
-    report::line(b"What tickv 2.0.0 says is computed on this image by its rules (difference D1).");
+fn heading(rt: &impl Print) -> io::Result<()> {
+    println!(rt; "A day in August: a correction spills into the next region, and is found.")?;
+    println!(rt;
+        "The chip: N {} regions of S {} bytes, {} bytes in all.",
+        flash::N,
+        flash::S,
+        flash::N * flash::S
+    )?;
+    println!(rt; "What tickv 2.0.0 says is computed on this image by its rules (difference D1).")
 }
 
-fn morning(image: &mut Image) {
-    report::line(b"\nThe morning: the store is set up, and three cameras are corrected.");
-    day::heading();
-    day::initialise(b"07:30", image, MAIN);
-    day::append(b"08:10", image, CAMERA_1, &corrections::CAMERA_1);
-    day::append(b"08:20", image, CAMERA_2, &corrections::CAMERA_2);
-    day::append(b"08:30", image, CAMERA_3, &corrections::CAMERA_3);
+fn morning(rt: &impl Print, chip: &mut Chip) -> io::Result<()> {
+    println!(rt; "\nThe morning: the store is set up, and three cameras are corrected.")?;
+    day::heading(rt)?;
+    day::call(rt, "07:30", "initialise", MAIN, chip.initialise(MAIN))?;
+    day::append(rt, "08:10", chip, CAMERA_1, corrections::CAMERA_1)?;
+    day::append(rt, "08:20", chip, CAMERA_2, corrections::CAMERA_2)?;
+    day::append(rt, "08:30", chip, CAMERA_3, corrections::CAMERA_3)
 }
 
 // A new correction takes the place of the one before, which is removed.
-fn afternoon(image: &mut Image) {
-    report::line(b"\nThe afternoon: cameras 2 and 1 are corrected anew. Then what is where:");
-    day::invalidate(b"12:05", image, CAMERA_2);
-    day::append(b"12:05", image, CAMERA_2, &corrections::CAMERA_2_AT_NOON);
-    day::invalidate(b"15:00", image, CAMERA_1);
-    day::append(b"15:00", image, CAMERA_1, &corrections::CAMERA_1_AT_THREE);
-    table::show(image);
+fn afternoon(rt: &impl Print, chip: &mut Chip) -> io::Result<()> {
+    println!(rt; "\nThe afternoon: cameras 2 and 1 are corrected anew. Then what is where:")?;
+    day::call(
+        rt,
+        "12:05",
+        "invalidate",
+        CAMERA_2,
+        chip.invalidate(CAMERA_2),
+    )?;
+    day::append(rt, "12:05", chip, CAMERA_2, corrections::CAMERA_2_AT_NOON)?;
+    day::call(
+        rt,
+        "15:00",
+        "invalidate",
+        CAMERA_1,
+        chip.invalidate(CAMERA_1),
+    )?;
+    day::append(rt, "15:00", chip, CAMERA_1, corrections::CAMERA_1_AT_THREE)?;
+    table::show(rt, chip)
 }
 
-fn look_up_all(image: &Image) {
-    report::text(b"\nCamera 1 asks for its correction. Key ");
-    lookups::one(image, CAMERA_1);
-    report::line(b"\n key  home  tickv 2.0.0                   this store");
-    lookups::row(image, MAIN);
-    lookups::row(image, CAMERA_1);
-    lookups::row(image, CAMERA_2);
-    lookups::row(image, CAMERA_3);
+fn look_up_all(rt: &(impl Print + Alloc), chip: &Chip) -> io::Result<()> {
+    lookups::one(rt, chip, CAMERA_1)?;
+    println!(rt; "\n key  home  tickv 2.0.0                   this store")?;
+    for key in [MAIN, CAMERA_1, CAMERA_2, CAMERA_3] {
+        lookups::row(rt, chip, key)?;
+    }
+    Ok(())
 }
 
-fn evening(image: &mut Image) {
-    report::line(b"\nThe evening: camera 2 is corrected anew, and camera 3 is taken away.");
-    day::invalidate(b"18:00", image, CAMERA_2);
-    day::append(b"18:00", image, CAMERA_2, &corrections::CAMERA_2_AT_SIX);
-    day::zeroise(b"18:30", image, CAMERA_3);
-    table::show(image);
-    report::line(b"");
-    day::collect(b"19:00", image);
-    table::show(image);
+fn evening(rt: &impl Print, chip: &mut Chip) -> io::Result<()> {
+    println!(rt; "\nThe evening: camera 2 is corrected anew, and camera 3 is taken away.")?;
+    day::call(
+        rt,
+        "18:00",
+        "invalidate",
+        CAMERA_2,
+        chip.invalidate(CAMERA_2),
+    )?;
+    day::append(rt, "18:00", chip, CAMERA_2, corrections::CAMERA_2_AT_SIX)?;
+    day::call(rt, "18:30", "zeroise", CAMERA_3, chip.zeroise(CAMERA_3))?;
+    table::show(rt, chip)?;
+    println!(rt; "")?;
+    day::collect(rt, "19:00", chip)?;
+    table::show(rt, chip)
 }
 
 // Every key that was not removed.
-fn all_kept(image: &Image) -> bool {
-    report::line(b"\n key  tickv 2.0.0                   this store, against what was appended");
-    let main = lookups::kept(image, MAIN, b"");
-    let first = lookups::kept(image, CAMERA_1, &corrections::CAMERA_1_AT_THREE);
-    let second = lookups::kept(image, CAMERA_2, &corrections::CAMERA_2_AT_SIX);
-    main && (first && second)
+fn all_kept(rt: &(impl Print + Alloc), chip: &Chip) -> io::Result<bool> {
+    println!(rt; "\n key  tickv 2.0.0                   this store, against what was appended")?;
+    let main = lookups::kept(rt, chip, MAIN, "")?;
+    let first = lookups::kept(rt, chip, CAMERA_1, corrections::CAMERA_1_AT_THREE)?;
+    let second = lookups::kept(rt, chip, CAMERA_2, corrections::CAMERA_2_AT_SIX)?;
+    Ok(main && first && second)
 }
 
 // A second record of a key that has one.
-fn append_twice(image: &mut Image) {
-    let before = *image;
+fn append_twice(rt: &impl Print, chip: &mut Chip) -> io::Result<()> {
+    let before = *chip;
     let value = corrections::CAMERA_1_AT_THREE;
-    report::text(b"\nA second append of key ");
-    print::key(CAMERA_1, 0);
-    report::text(b":\n  tickv 2.0.0  ");
-    let put = old_append::append_key(image, CAMERA_1, value.len());
-    old_append::show(put, lookups::is_live(image, CAMERA_1));
-    report::text(b"\n  this store   ");
-    let answer = store::append_key(image, flash::S, flash::N, CAMERA_1, &value);
-    print::answer(answer);
-    if report::same(&before, image) {
-        report::line(b", and no byte changed");
-    } else {
-        report::line(b", AND THE IMAGE CHANGED");
+    println!(rt; "\nA second append of key {CAMERA_1}:")?;
+    match old_append::append_key(&chip.bytes, CAMERA_1, value.len()) {
+        Ok(r) if lookups::is_live(chip, CAMERA_1) => {
+            println!(rt; "  tickv 2.0.0  Written (region {r}): the key is live twice")?
+        }
+        Ok(r) => println!(rt; "  tickv 2.0.0  Written (region {r})")?,
+        Err(refusal) => println!(rt; "  tickv 2.0.0  {refusal}")?,
     }
+    let answer = Said(chip.append(CAMERA_1, value.as_bytes()));
+    let changed = if *chip == before {
+        "and no byte changed"
+    } else {
+        "AND THE IMAGE CHANGED"
+    };
+    println!(rt; "  this store   {answer}, {changed}")
 }

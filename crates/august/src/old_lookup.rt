@@ -1,10 +1,9 @@
 // The lookup of the crate tickv 2.0.0 on the same image, by the rule of its source, src/tickv.rs: difference D1 of docs/DIFFERENCES.md.
 // The image is well-formed all day, so that nothing else comes in by which the crate's lookup differs from ours.
-ghost use Rattle.std.specs.Prelude.{◌≡◌, length};
-
-use crate::{flash, print};
+use crate::flash;
 use format::Record;
 use region::{Event, Want};
+use std::fmt;
 
 // Why a lookup ends at a region.
 #[derive(Clone, Copy)]
@@ -14,106 +13,66 @@ pub enum Why {
     Bad,
 }
 
-// What one region says.
-#[derive(Clone, Copy)]
-pub enum Turn {
-    // With the value's length.
-    Found(usize),
-    Ends(Why),
-    GoesOn,
+impl fmt::Display for Why {
+    fn fmt<W: fmt::Write>(&self, f: &mut fmt::Formatter<W>) -> fmt::Result {
+        f.write_str(match *self {
+            Why::Full => "full",
+            Why::Blank => "blank",
+            Why::Bad => "bad",
+        })
+    }
 }
 
 // How a lookup ends, and in which region.
 #[derive(Clone, Copy)]
-pub enum Got {
+pub enum Found {
+    // With the value's length.
     Complete(usize, usize),
-    NotFound(usize, Why),
-    NotInAny,
+    KeyNotFound(usize, Why),
+    InNoRegion,
+}
+
+impl fmt::Display for Found {
+    fn fmt<W: fmt::Write>(&self, f: &mut fmt::Formatter<W>) -> fmt::Result {
+        match *self {
+            Found::Complete(r, len) => write!(f, "Complete{len:>4} (region {r})"),
+            Found::KeyNotFound(r, why) => write!(f, "KeyNotFound (region {r} {why})"),
+            Found::InNoRegion => f.write_str("KeyNotFound (no region)"),
+        }
+    }
 }
 
 // `get_key`: the regions in probe order, as long as `find_key_offset` says to keep looking.
-pub fn get_key(image: &[u8], key: u64) -> Got
-    requires { length image.now ≡ 512 }
-{
+pub fn get_key(image: &[u8; 512], key: u64) -> Found {
     let home = probe::get_region(key, flash::N);
-    let mut i: usize = 0;
-    while i < flash::N {
+    for i in 0..flash::N {
         let r = probe::probe_at(home, flash::N, i);
         let a = r * flash::S;
-        let e = a + flash::S;
-        let turn = find_key_offset(&image[a..e], key);
-        match turn {
-            Turn::Found(len) => return Got::Complete(r, len),
-            Turn::Ends(why) => return Got::NotFound(r, why),
-            Turn::GoesOn => {
-                i += 1;
-            }
+        match find_key_offset(&image[a..a + flash::S], key) {
+            Ok(Some(len)) => return Found::Complete(r, len),
+            Ok(None) => {}
+            Err(why) => return Found::KeyNotFound(r, why),
         }
     }
-    Got::NotInAny
+    Found::InNoRegion
 }
 
-// `find_key_offset`: a walk that ends at place 0, or too near the region's end for a header, answers (false, KeyNotFound), and the lookup
-// ends there. It goes on to the next region only from one with records and free space.
-fn find_key_offset(region: &[u8], key: u64) -> Turn {
+// `find_key_offset`, which gives the value's length: a walk that ends at place 0, or too near the region's end for a header, answers
+// (false, KeyNotFound), and the lookup ends there. It goes on to the next region only from one with records and free space.
+fn find_key_offset(region: &[u8], key: u64) -> Result<Option<usize>, Why> {
     let event = region::find(region, Want::Key(key));
     match event {
-        Event::Live(rec) => Turn::Found(rec.len - Record::LEAST),
-        Event::Bad(_, _) => Turn::Ends(Why::Bad),
+        Event::Live(rec) => Ok(Some(rec.len - Record::LEAST)),
+        Event::Bad(_, _) => Err(Why::Bad),
         Event::End(at) => {
             // at + HEADER_LENGTH >= S
             if region.len() - at <= Record::HEADER_LENGTH {
-                return Turn::Ends(Why::Full);
+                return Err(Why::Full);
             }
             if at == 0 {
-                return Turn::Ends(Why::Blank);
+                return Err(Why::Blank);
             }
-            Turn::GoesOn
+            Ok(None)
         }
-    }
-}
-
-pub fn show(got: Got) {
-    match got {
-        Got::Complete(r, len) => {
-            report::text(b"Complete");
-            print::column(len, 4);
-            report::text(b" (region ");
-            print::number(r);
-            report::text(b")");
-        }
-        Got::NotFound(r, why) => {
-            report::text(b"KeyNotFound (region ");
-            print::number(r);
-            print_why(why);
-        }
-        Got::NotInAny => {
-            report::text(b"KeyNotFound (no region)");
-        }
-    }
-}
-
-fn print_why(why: Why) {
-    match why {
-        Why::Full => report::text(b" full)"),
-        Why::Blank => report::text(b" blank)"),
-        Why::Bad => report::text(b" bad)"),
-    }
-}
-
-// Blanks up to the longest that is printed.
-pub fn pad(got: Got) {
-    match got {
-        Got::Complete(_, _) => report::text(b"     "),
-        Got::NotFound(_, why) => pad_why(why),
-        Got::NotInAny => report::text(b"     "),
-    }
-}
-
-fn pad_why(why: Why) {
-    match why {
-        Why::Full => report::text(b" "),
-        Why::Blank => report::text(b""),
-        Why::Bad => report::text(b"  "),
     }
 }

@@ -1,60 +1,47 @@
-// Numbers, answers and values in columns.
+// Answers and values as the day's lines have them.
 use plans::Answer;
-use report::text;
-
-pub fn number(n: usize) {
-    io::print_decimal(1, n as u64);
-}
-
-// A number at the right end of a column so many characters wide.
-pub fn column(n: usize, width: usize) {
-    key(n as u64, width);
-}
-
-pub fn key(key: u64, width: usize) {
-    let mut digits = [0u8; 20];
-    let k = io::decimal(key, &mut digits);
-    blanks(k, width);
-    text(&digits[..k]);
-}
-
-// Blanks from one place of a column to another.
-fn blanks(from: usize, to: usize) {
-    let mut i = from;
-    while i < to {
-        text(b" ");
-        i += 1;
-    }
-}
-
-// The first bytes of a buffer, as many as a value has, as the text that they are.
-pub fn quoted(buffer: &[u8], len: usize) {
-    if len > buffer.len() {
-        return;
-    }
-    text(b"\"");
-    text(&buffer[0..len]);
-    text(b"\"");
-}
+use std::{fmt, str};
 
 // An answer's name and value.
-pub fn answer(answer: Answer) {
-    match answer {
-        Answer::Complete(len) => {
-            text(b"Complete");
-            column(len, 4);
+#[derive(Clone, Copy)]
+pub struct Said(pub Answer);
+
+impl fmt::Display for Said {
+    fn fmt<W: fmt::Write>(&self, f: &mut fmt::Formatter<W>) -> fmt::Result {
+        match self.0 {
+            Answer::Complete(len) => write!(f, "Complete{len:>4}"),
+            Answer::Written => f.write_str("Written"),
+            Answer::Freed(bytes) => write!(f, "Freed {bytes} bytes"),
+            Answer::Refused(refusal) => write!(f, "refused: {refusal}"),
         }
-        Answer::Written => {
-            text(b"Written");
+    }
+}
+
+// What a get answered, with what it left in the buffer.
+#[derive(Clone, Copy)]
+pub struct Got<'a> {
+    pub answer: Answer,
+    pub buffer: &'a [u8],
+}
+
+impl<'a> Got<'a> {
+    // The value, where there is one.
+    pub fn value(&self) -> Option<&'a [u8]> {
+        match self.answer {
+            Answer::Complete(len) => self.buffer.get(..len),
+            Answer::Written | Answer::Freed(_) | Answer::Refused(_) => None,
         }
-        Answer::Freed(bytes) => {
-            text(b"Freed ");
-            number(bytes);
-            text(b" bytes");
-        }
-        Answer::Refused(refusal) => {
-            text(b"refused:");
-            report::name(refusal);
-        }
+    }
+}
+
+// The answer, and behind it the value as the text that it is.
+impl<'a> fmt::Display for Got<'a> {
+    fn fmt<W: fmt::Write>(&self, f: &mut fmt::Formatter<W>) -> fmt::Result {
+        write!(f, "{}", Said(self.answer))?;
+        let Some(value) = self.value() else {
+            return Ok(());
+        };
+        let text = str::from_utf8(value).unwrap_or("no text");
+        write!(f, "  \"{text}\"")
     }
 }

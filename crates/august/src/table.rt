@@ -1,93 +1,65 @@
 // What is where: a row for each record of the image, and one for what is left of each region.
-ghost use Rattle.std.specs.Prelude.{◌≡◌, ◌≤◌, length};
+ghost use Rattle.std.specs.Prelude.{◌≤◌};
 
-use crate::{flash, print};
+use crate::flash;
+use crate::flash::Chip;
 use format::Record;
 use region::Stop;
+use std::io;
 
-pub fn show(image: &[u8])
-    requires { length image.now ≡ 512 }
-{
-    report::line(b"region  place  state    key  bytes  home");
-    let mut r: usize = 0;
-    while r < flash::N {
-        let a = r * flash::S;
-        let e = a + flash::S;
-        rows(r, &image[a..e]);
-        r += 1;
+pub fn show(rt: &impl Print, chip: &Chip) -> io::Result<()> {
+    println!(rt; "region  place  state    key  bytes  home")?;
+    for (r, region) in chip.bytes.chunks_exact(flash::S).enumerate() {
+        rows(rt, r, region)?;
     }
+    Ok(())
 }
 
 // The walk of a region, as the store's calls walk it.
-fn rows(r: usize, region: &[u8]) {
+fn rows(rt: &impl Print, r: usize, region: &[u8]) -> io::Result<()> {
     let mut at: usize = 0;
     loop {
         match region::look(region, at) {
             Ok(rec) => {
-                record_row(r, rec);
+                record_row(rt, r, rec)?;
                 at += rec.len;
             }
-            Err(stop) => {
-                let e = region.len();
-                stop_row(r, stop, &region[at..e]);
-                return;
-            }
+            Err(stop) => return stop_row(rt, r, stop, &region[at..]),
         }
     }
 }
 
 // A record's value is all of it but header and checksum.
-fn record_row(r: usize, rec: Record)
+fn record_row(rt: &impl Print, r: usize, rec: Record) -> io::Result<()>
     requires { 15 ≤ rec.len }
 {
     let home = probe::get_region(rec.key, flash::N);
-    place(r, rec.at);
-    if rec.is_live() {
-        report::text(b"live ");
-    } else {
-        report::text(b"dead ");
-    }
-    print::key(rec.key, 6);
-    print::column(rec.len - Record::LEAST, 7);
-    print::column(home, 6);
-    if home != r {
-        report::text(b"  spilled");
-    }
-    report::line(b"");
-}
-
-fn stop_row(r: usize, stop: Stop, rest: &[u8]) {
-    match stop {
-        Stop::End(at) => {
-            place(r, at);
-            rest_of(at, rest);
-        }
-        Stop::Bad(_, at) => {
-            place(r, at);
-            report::line(b"bad");
-        }
-    }
+    let state = if rec.is_live() { "live" } else { "dead" };
+    let spilled = if home != r { "  spilled" } else { "" };
+    let len = rec.len - Record::LEAST;
+    println!(rt;
+        "{r:>6}{:>7}  {state} {:>6}{len:>7}{home:>6}{spilled}",
+        rec.at, rec.key
+    )
 }
 
 // What is left is too short for any record, or all of the region, or something between.
-fn rest_of(at: usize, rest: &[u8]) {
-    if rest.len() < Record::LEAST {
-        report::text(b"full ");
+fn stop_row(rt: &impl Print, r: usize, stop: Stop, rest: &[u8]) -> io::Result<()> {
+    let at = match stop {
+        Stop::End(at) => at,
+        Stop::Bad(_, at) => return println!(rt; "{r:>6}{at:>7}  bad"),
+    };
+    let state = if rest.len() < Record::LEAST {
+        "full"
     } else if at == 0 {
-        report::text(b"blank");
+        "blank"
     } else {
-        report::text(b"free ");
-    }
-    print::column(rest.len(), 13);
-    if chip::is_blank(rest) {
-        report::line(b" left");
+        "free"
+    };
+    let left = if chip::is_blank(rest) {
+        "left"
     } else {
-        report::line(b" left, NOT BLANK");
-    }
-}
-
-fn place(r: usize, at: usize) {
-    print::column(r, 6);
-    print::column(at, 7);
-    report::text(b"  ");
+        "left, NOT BLANK"
+    };
+    println!(rt; "{r:>6}{at:>7}  {state:<5}{:>13} {left}", rest.len())
 }

@@ -3,188 +3,157 @@
 
 #![tactic(auto)]
 
-fn main() {
-    probes();
-    append_and_get();
-    exact_fit();
-    spill();
-    zeroise();
-    bad_version();
-    lengths();
-    collect_blank();
-    largest();
-    start_anew();
-    lent();
+use report::{Hex, Image};
+use std::io;
+
+fn main(rt: HostRuntime) -> io::Result<()> {
+    probes(&rt)?;
+    append_and_get(&rt)?;
+    exact_fit(&rt)?;
+    spill(&rt)?;
+    zeroise(&rt)?;
+    bad_version(&rt)?;
+    lengths(&rt)?;
+    collect_blank(&rt)?;
+    largest(&rt)?;
+    start_anew(&rt)?;
+    lent(&rt)
 }
 
-// R15.1
-fn probes() {
-    probe_line(b"1 probes of key 1:", 1);
-    probe_line(b"1 probes of key 3:", 3);
+fn blank() -> Image<256> {
+    Image {
+        s: 64,
+        n: 4,
+        bytes: [255; 256],
+    }
+}
+
+// R15.1: a key's regions in probe order.
+fn probes(rt: &impl Print) -> io::Result<()> {
+    for key in [1, 3] {
+        print!(rt; "1 probes of key {key}:")?;
+        let home = probe::get_region(key, 4);
+        for i in 0..4 {
+            print!(rt; " {}", probe::probe_at(home, 4, i))?;
+        }
+        println!(rt; "")?;
+    }
+    Ok(())
 }
 
 // R15.2, R15.3
-fn append_and_get() {
-    let mut image = [255u8; 256];
-    let mut buffer = [0u8; 2];
-    report::answer(
-        b"2 append 1:",
-        store::append_key(&mut image, 64, 4, 1, &[7, 8, 9]),
-    );
-    report::show(b"2 at 64:", &image[64..82]);
-    report::answer(b"3 get 1:", store::get_key(&image, 64, 4, 1, &mut buffer));
-    report::show(b"3 buffer:", &buffer);
+fn append_and_get(rt: &impl Print) -> io::Result<()> {
+    let mut image = blank();
+    let mut buffer = [0; 2];
+    println!(rt; "2 append 1: {}", image.append(1, &[7, 8, 9]))?;
+    println!(rt; "2 at 64:{}", Hex(&image.bytes[64..82]))?;
+    println!(rt; "3 get 1: {}", image.get(1, &mut buffer))?;
+    println!(rt; "3 buffer:{}", Hex(&buffer))
 }
 
 // R15.4
-fn exact_fit() {
-    let mut image = [255u8; 256];
-    let mut other = [255u8; 256];
-    report::answer(
-        b"4 append 1, 49 bytes:",
-        store::append_key(&mut image, 64, 4, 1, &[7; 49]),
-    );
-    report::answer(
-        b"4 append 1, 50 bytes:",
-        store::append_key(&mut other, 64, 4, 1, &[7; 50]),
-    );
+fn exact_fit(rt: &impl Print) -> io::Result<()> {
+    println!(rt; "4 append 1, 49 bytes: {}", blank().append(1, &[7; 49]))?;
+    println!(rt; "4 append 1, 50 bytes: {}", blank().append(1, &[7; 50]))
 }
 
 // R15.5, R15.6
-fn spill() {
-    let mut image = [255u8; 256];
-    let mut nothing: [u8; 0] = [];
-    report::answer(
-        b"5 append 1, 49 bytes:",
-        store::append_key(&mut image, 64, 4, 1, &[7; 49]),
-    );
-    report::answer(b"5 append 5:", store::append_key(&mut image, 64, 4, 5, b""));
-    report::show(b"5 at 128:", &image[128..143]);
-    report::answer(b"5 get 5:", store::get_key(&image, 64, 4, 5, &mut nothing));
-    report::answer(
-        b"6 invalidate 1:",
-        store::invalidate_key(&mut image, 64, 4, 1),
-    );
-    report::answer(b"6 collect:", store::garbage_collect(&mut image, 64, 4));
-    report::answer(b"6 get 5:", store::get_key(&image, 64, 4, 5, &mut nothing));
+fn spill(rt: &impl Print) -> io::Result<()> {
+    let mut image = blank();
+    println!(rt; "5 append 1, 49 bytes: {}", image.append(1, &[7; 49]))?;
+    println!(rt; "5 append 5: {}", image.append(5, b""))?;
+    println!(rt; "5 at 128:{}", Hex(&image.bytes[128..143]))?;
+    println!(rt; "5 get 5: {}", image.get(5, &mut []))?;
+    println!(rt; "6 invalidate 1: {}", image.invalidate(1))?;
+    println!(rt; "6 collect: {}", image.collect())?;
+    println!(rt; "6 get 5: {}", image.get(5, &mut []))
 }
 
 // R15.7
-fn zeroise() {
-    let mut image = [255u8; 256];
-    report::answer(
-        b"7 append 1, 49 bytes:",
-        store::append_key(&mut image, 64, 4, 1, &[7; 49]),
-    );
-    report::answer(b"7 zeroise 1:", store::zeroise_key(&mut image, 64, 4, 1));
-    report::show(b"7 at 64:", &image[64..128]);
+fn zeroise(rt: &impl Print) -> io::Result<()> {
+    let mut image = blank();
+    println!(rt; "7 append 1, 49 bytes: {}", image.append(1, &[7; 49]))?;
+    println!(rt; "7 zeroise 1: {}", image.zeroise(1))?;
+    println!(rt; "7 at 64:{}", Hex(&image.bytes[64..128]))
 }
 
 // R15.8
-fn bad_version() {
-    let mut image = [255u8; 256];
-    let mut nothing: [u8; 0] = [];
-    image[64] = 2;
-    report::answer(b"8 get 1:", store::get_key(&image, 64, 4, 1, &mut nothing));
-    report::answer(b"8 get 3:", store::get_key(&image, 64, 4, 3, &mut nothing));
+fn bad_version(rt: &impl Print) -> io::Result<()> {
+    let mut image = blank();
+    image.bytes[64] = 2;
+    println!(rt; "8 get 1: {}", image.get(1, &mut []))?;
+    println!(rt; "8 get 3: {}", image.get(3, &mut []))
 }
 
-// R15.9
-fn lengths() {
-    of_length(b"9 get 1, length 14:", 14);
-    of_length(b"9 get 1, length 15:", 15);
-    of_length(b"9 get 1, length 0:", 0);
-}
-
-// A record of key 1 with no value, whose header is then made to say another length.
-fn of_length(what: &[u8], len: u8) {
-    let mut image = [255u8; 256];
-    let mut nothing: [u8; 0] = [];
-    store::append_key(&mut image, 64, 4, 1, b"");
-    image[66] = len;
-    report::answer(what, store::get_key(&image, 64, 4, 1, &mut nothing));
+// R15.9: a record of key 1 with no value, whose header is then made to say another length.
+fn lengths(rt: &impl Print) -> io::Result<()> {
+    for len in [14, 15, 0] {
+        let mut image = blank();
+        image.append(1, b"");
+        image.bytes[66] = len;
+        println!(rt; "9 get 1, length {len}: {}", image.get(1, &mut []))?;
+    }
+    Ok(())
 }
 
 // R15.10
-fn collect_blank() {
-    let mut image = [255u8; 256];
-    report::answer(b"10 collect:", store::garbage_collect(&mut image, 64, 4));
+fn collect_blank(rt: &impl Print) -> io::Result<()> {
+    println!(rt; "10 collect: {}", blank().collect())
 }
 
 // R15.11: the longest record has 4,094 bytes, 15 more than its value.
-fn largest() {
-    let mut image = [255u8; 16384];
-    report::answer(
-        b"11 append 1, 4079 bytes:",
-        store::append_key(&mut image, 4096, 4, 1, &[7; 4079]),
-    );
-    report::show(b"11 at 4096:", &image[4096..4099]);
-    report::answer(
-        b"11 append 2, 4080 bytes:",
-        store::append_key(&mut image, 4096, 4, 2, &[7; 4080]),
-    );
+fn largest(rt: &impl Print) -> io::Result<()> {
+    let mut image = Image {
+        s: 4096,
+        n: 4,
+        bytes: [255; 16384],
+    };
+    println!(rt; "11 append 1, 4079 bytes: {}", image.append(1, &[7; 4079]))?;
+    println!(rt; "11 at 4096:{}", Hex(&image.bytes[4096..4099]))?;
+    println!(rt; "11 append 2, 4080 bytes: {}", image.append(2, &[7; 4080]))
 }
 
 // R15.12: the main key is 1; a second key shows that more than its own region is erased.
-fn start_anew() {
-    let mut image = [255u8; 256];
-    let mut nothing: [u8; 0] = [];
-    report::answer(
-        b"12 append 1, 1 byte:",
-        store::append_key(&mut image, 64, 4, 1, &[7]),
-    );
-    report::answer(
-        b"12 append 2:",
-        store::append_key(&mut image, 64, 4, 2, b""),
-    );
-    report::answer(b"12 initialise 1:", store::initialise(&mut image, 64, 4, 1));
-    report::answer(b"12 get 1:", store::get_key(&image, 64, 4, 1, &mut nothing));
-    report::answer(b"12 get 2:", store::get_key(&image, 64, 4, 2, &mut nothing));
-    report::show(b"12 at 64:", &image[64..79]);
-    show_blank(b"12 before 64:", &image[0..64]);
-    show_blank(b"12 from 79 on:", &image[79..256]);
+fn start_anew(rt: &impl Print) -> io::Result<()> {
+    let mut image = blank();
+    println!(rt; "12 append 1, 1 byte: {}", image.append(1, &[7]))?;
+    println!(rt; "12 append 2: {}", image.append(2, b""))?;
+    println!(rt; "12 initialise 1: {}", image.initialise(1))?;
+    println!(rt; "12 get 1: {}", image.get(1, &mut []))?;
+    println!(rt; "12 get 2: {}", image.get(2, &mut []))?;
+    println!(rt; "12 at 64:{}", Hex(&image.bytes[64..79]))?;
+    println!(rt; "12 before 64: {}", state(&image.bytes[..64]))?;
+    println!(rt; "12 from 79 on: {}", state(&image.bytes[79..]))
 }
 
-// A key's regions in probe order, of four.
-fn probe_line(what: &[u8], key: u64) {
-    io::write_all(1, what);
-    let home = probe::get_region(key, 4);
-    report::number(probe::probe_at(home, 4, 0));
-    report::number(probe::probe_at(home, 4, 1));
-    report::number(probe::probe_at(home, 4, 2));
-    report::number(probe::probe_at(home, 4, 3));
-    io::write_all(1, b"\n");
-}
-
-// A line that says whether a part is as an erase leaves it.
-fn show_blank(what: &[u8], part: &[u8]) {
-    io::write_all(1, what);
+// Whether a part is as an erase leaves it.
+fn state(part: &[u8]) -> &'static str {
     if chip::is_blank(part) {
-        io::write_all(1, b" blank\n");
+        "blank"
     } else {
-        io::write_all(1, b" not blank\n");
+        "not blank"
     }
 }
 
 // R16.1, R16.3: the value of R15.2's record where it lies, one of no bytes, and none.
-fn lent() {
-    let mut image = [255u8; 256];
-    report::answer(
-        b"16 append 1:",
-        store::append_key(&mut image, 64, 4, 1, &[7, 8, 9]),
-    );
-    report::answer(
-        b"16 append 5:",
-        store::append_key(&mut image, 64, 4, 5, b""),
-    );
-    lend(b"16 value of 1:", &image, 1);
-    lend(b"16 value of 5:", &image, 5);
-    lend(b"16 value of 3:", &image, 3);
-    image[75] = 0;
-    lend(b"16 value of 1, a byte altered:", &image, 1);
+fn lent(rt: &impl Print) -> io::Result<()> {
+    let mut image = blank();
+    println!(rt; "16 append 1: {}", image.append(1, &[7, 8, 9]))?;
+    println!(rt; "16 append 5: {}", image.append(5, b""))?;
+    lend(rt, "16 value of 1", &image, 1)?;
+    lend(rt, "16 value of 5", &image, 5)?;
+    lend(rt, "16 value of 3", &image, 3)?;
+    image.bytes[75] = 0;
+    lend(rt, "16 value of 1, a byte altered", &image, 1)
 }
 
-fn lend(what: &[u8], image: &[u8], key: u64) {
-    report::answer(what, lending::value_answer(image, 64, 4, key));
-    report::show(what, lending::value_of(image, 64, 4, key));
+fn lend(rt: &impl Print, what: &str, image: &Image<256>, key: u64) -> io::Result<()> {
+    println!(rt;
+        "{what}: {}",
+        lending::value_answer(&image.bytes, image.s, image.n, key)
+    )?;
+    println!(rt;
+        "{what}:{}",
+        Hex(lending::value_of(&image.bytes, image.s, image.n, key))
+    )
 }

@@ -3,11 +3,7 @@
 #![tactic(auto)]
 
 mod compare;
-mod numbers;
-mod print;
 mod serving;
 
-pub use compare::{changes, same_image};
-pub use numbers::Numbers;
-pub use print::outcome;
-pub use serving::{Host, beat, begin, drive};
+pub use compare::changes;
+pub use serving::{Host, Pace};

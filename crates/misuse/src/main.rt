@@ -2,167 +2,98 @@
 
 #![tactic(auto)]
 
-use host::Host;
+use host::{Host, Pace};
 use plans::Answer;
 use refusals::Refusal;
+use report::Hex;
 use running::{Op, Reply};
+use std::io;
 use steps::Stepped;
 
-fn main() {
-    refused_starts();
-    bad_calls();
+fn main(rt: HostRuntime) -> io::Result<()> {
+    refused_starts(&rt)?;
+    bad_calls(&rt)
 }
 
 // Refusals 1, 2 and 3 are the start's.
-fn refused_starts() {
+fn refused_starts(rt: &impl Print) -> io::Result<()> {
     started(
-        b"start with regions of 63 bytes:",
+        rt,
+        "start with regions of 63 bytes:",
         running::start_collect(63, 4),
-    );
-    started(b"start with 65 regions:", running::start_collect(64, 65));
-    started(b"start with key 0:", running::start_get(64, 4, 0, 0));
+    )?;
+    started(rt, "start with 65 regions:", running::start_collect(64, 65))?;
+    started(rt, "start with key 0:", running::start_get(64, 4, 0, 0))?;
     started(
-        b"start with 4080 bytes:",
+        rt,
+        "start with 4080 bytes:",
         running::start_append(4096, 4, 1, 4080),
-    );
+    )
 }
 
-fn started(what: &[u8], start: Result<Op, Refusal>) {
+fn started(rt: &impl Print, what: &str, start: Result<Op, Refusal>) -> io::Result<()> {
     match start {
-        Ok(_) => report::line(what),
-        Err(refusal) => report::answer(what, Answer::Refused(refusal)),
+        Ok(_) => println!(rt; "{what}"),
+        Err(refusal) => println!(rt; "{what} {}", Answer::Refused(refusal)),
     }
 }
 
-fn bad_calls() {
-    let mut image = [255u8; 256];
-    bad_appends(&mut image);
-    host::changes(&[255; 256], &image);
-    bad_gets(&mut image);
+fn bad_calls(rt: &impl Print) -> io::Result<()> {
+    let mut image = [255; 256];
+    println!(rt; "append 1, 3 bytes, with bad calls")?;
+    if let Ok(op) = running::start_append(64, 4, 1, 3) {
+        bad_appends(rt, op, &mut image)?;
+    }
+    host::changes(rt, &[255; 256], &image)?;
+    println!(rt; "get 1 into 5 bytes, with bad calls")?;
+    if let Ok(op) = running::start_get(64, 4, 1, 5) {
+        bad_gets(rt, op, &mut image)?;
+    }
+    Ok(())
 }
 
 // A bad call leaves the operation as it was: it goes on from its second request.
-fn bad_appends(image: &mut [u8; 256]) {
-    let mut region = [0u8; 64];
-    let mut none: [u8; 0] = [];
-    let value = [7u8, 8, 9];
-    report::line(b"append 1, 3 bytes, with bad calls");
-    let Ok(op) = running::start_append(64, 4, 1, 3) else {
-        return;
-    };
-    let first = host::begin(op, &mut region, &value, &mut none);
-    let second = host::beat(
-        first,
-        image,
-        &mut region,
-        &value,
-        &mut none,
-        Host::ready(),
-        0,
-    );
-    let op = second.op;
-    let op = bad_steps(op, &mut region, &value);
-    finish(op, image, &mut region, &value, &mut none);
-}
-
-fn bad_steps(op: Op, region: &mut [u8; 64], value: &[u8]) -> Op {
-    let op = lend_less(op, value);
-    let op = tried(
-        b"  value of 2 bytes:",
-        op,
-        Reply::Done,
-        region,
-        &[7, 8],
-        &mut [],
-    );
-    tried(
-        b"  begin at the second step:",
-        op,
-        Reply::Begin,
-        region,
-        value,
-        &mut [],
-    )
+fn bad_appends(rt: &impl Print, op: Op, image: &mut [u8; 256]) -> io::Result<()> {
+    let value = [7, 8, 9];
+    let mut region = [0; 64];
+    let mut host = Host::new(image, &value, &mut [], Pace::READY);
+    let first = host.step(op, Reply::Begin);
+    let op = host.beat(rt, first, 0)?.op;
+    let now = steps::step(op, Reply::Done, &mut [0; 63], &value, &mut []);
+    let op = said(rt, "region buffer of 63 bytes", now)?;
+    let now = steps::step(op, Reply::Done, &mut region, &[7, 8], &mut []);
+    let op = said(rt, "value of 2 bytes", now)?;
+    let now = host.step(op, Reply::Begin);
+    let op = said(rt, "begin at the second step", now)?;
+    finish(rt, op, &mut host)?;
+    Ok(())
 }
 
 // The same before the first request, after it, and after the end.
-fn bad_gets(image: &mut [u8; 256]) {
-    let mut region = [0u8; 64];
-    let mut buffer = [0u8; 5];
-    report::line(b"get 1 into 5 bytes, with bad calls");
-    let Ok(op) = running::start_get(64, 4, 1, 5) else {
-        return;
-    };
-    let op = tried(
-        b"  done at the first step:",
-        op,
-        Reply::Done,
-        &mut region,
-        b"",
-        &mut buffer,
-    );
-    let first = host::begin(op, &mut region, b"", &mut buffer);
-    let op = lend_more(first, &mut region);
-    let op = finish(op, image, &mut region, b"", &mut buffer);
-    tried(
-        b"  done after the end:",
-        op,
-        Reply::Done,
-        &mut region,
-        b"",
-        &mut buffer,
-    );
-    report::show(b"  buffer:", &buffer);
-}
-
-fn lend_more(now: Stepped, region: &mut [u8; 64]) -> Op {
-    let op = now.op;
-    tried(
-        b"  buffer of 6 bytes:",
-        op,
-        Reply::Done,
-        region,
-        b"",
-        &mut [0; 6],
-    )
-}
-
-fn lend_less(op: Op, value: &[u8]) -> Op {
-    let mut small = [0u8; 63];
-    said(
-        b"  region buffer of 63 bytes:",
-        steps::step(op, Reply::Done, &mut small, value, &mut []),
-    )
-}
-
-// A step that is not to be taken.
-fn tried(
-    what: &[u8],
-    op: Op,
-    reply: Reply,
-    region: &mut [u8; 64],
-    value: &[u8],
-    buffer: &mut [u8],
-) -> Op {
-    said(what, steps::step(op, reply, region, value, buffer))
+fn bad_gets(rt: &impl Print, op: Op, image: &mut [u8; 256]) -> io::Result<()> {
+    let mut buffer = [0; 5];
+    let mut region = [0; 64];
+    let mut host = Host::new(image, b"", &mut buffer, Pace::READY);
+    let now = host.step(op, Reply::Done);
+    let op = said(rt, "done at the first step", now)?;
+    let op = host.step(op, Reply::Begin).op;
+    let now = steps::step(op, Reply::Done, &mut region, b"", &mut [0; 6]);
+    let op = said(rt, "buffer of 6 bytes", now)?;
+    let op = finish(rt, op, &mut host)?;
+    let now = host.step(op, Reply::Done);
+    said(rt, "done after the end", now)?;
+    println!(rt; "  buffer:{}", Hex(&buffer))
 }
 
 // A line with what a step said, and the operation as it then stands.
-fn said(what: &[u8], stepped: Stepped) -> Op {
-    let request = stepped.request;
-    host::outcome(what, request);
-    stepped.op
+fn said(rt: &impl Print, what: &str, stepped: Stepped) -> io::Result<Op> {
+    println!(rt; "  {what}: {}", stepped.request)?;
+    Ok(stepped.op)
 }
 
 // A step with "not ready" says the request again, and from there it goes to the end.
-fn finish(
-    op: Op,
-    image: &mut [u8; 256],
-    region: &mut [u8; 64],
-    value: &[u8],
-    buffer: &mut [u8],
-) -> Op {
-    let again = steps::step(op, Reply::NotReady, region, value, buffer);
-    let last = host::drive(again, image, region, value, buffer, Host::ready());
-    said(b"  answer:", last)
+fn finish(rt: &impl Print, op: Op, host: &mut Host<'_>) -> io::Result<Op> {
+    let again = host.step(op, Reply::NotReady);
+    let last = host.drive(rt, again)?;
+    said(rt, "answer", last)
 }

@@ -1,3 +1,4 @@
 pub mod Starts
 pub mod Waits
 pub mod Ruled
+pub mod Requests

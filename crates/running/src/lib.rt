@@ -2,6 +2,7 @@
 
 #![tactic(auto)]
 
+mod display;
 mod ruled;
 mod starts;
 mod waits;

@@ -1,77 +1,97 @@
 // A call one service at a time, held against the same call made in one.
-use crate::call;
-use crate::call::Call;
-use host::{Host, Numbers};
-use plans::Answer;
-use running::{Op, Request};
+ghost use Rattle.std.specs.Prelude.{◌≤◌};
 
-// A get, and what lies in its buffer then. In one call it has the buffer's twin.
-pub fn get(
-    what: &[u8],
+use crate::call::Call;
+use host::{Host, Pace};
+use plans::Answer;
+use report::{Hex, Image};
+use running::{Reply, Request};
+use std::io;
+
+// A get into a buffer of so many bytes, and what lies in it then. In one call it has the buffer's twin.
+pub fn get<const LEN: usize>(
+    rt: &impl Print,
+    what: &str,
     key: u64,
-    image: &mut [u8; 256],
-    buffer: &mut [u8],
-    twin: &mut [u8],
-    host: Host,
-) {
-    both(what, Call::Get(key), image, b"", buffer, twin, host);
-    report::show(b"  buffer:", buffer);
+    image: &mut Image<256>,
+    pace: Pace,
+) -> io::Result<()>
+    requires { LEN ≤ 64 }
+{
+    let mut buffer = [0; LEN];
+    let mut twin = [0; LEN];
+    println!(rt; "{what}")?;
+    both(rt, Call::Get(key), image, b"", &mut buffer, &mut twin, pace)?;
+    println!(rt; "  buffer:{}", Hex(&buffer))
 }
 
 // A call without a buffer, and what it changed.
-pub fn change(what: &[u8], call: Call, image: &mut [u8; 256], value: &[u8], host: Host) {
-    let old = *image;
-    both(what, call, image, value, &mut [], &mut [], host);
-    host::changes(&old, image);
+pub fn change(
+    rt: &impl Print,
+    what: &str,
+    call: Call,
+    image: &mut Image<256>,
+    value: &[u8],
+    pace: Pace,
+) -> io::Result<()> {
+    let old = image.bytes;
+    println!(rt; "{what}")?;
+    both(rt, call, image, value, &mut [], &mut [], pace)?;
+    host::changes(rt, &old, &image.bytes)
 }
 
 // A call whose service of this number fails. In one call there is no such thing.
-pub fn fail(what: &[u8], call: Call, image: &mut [u8; 256], service: usize) {
-    let old = *image;
-    report::line(what);
-    run(call, image, b"", &mut [], Host::failing(service));
-    host::changes(&old, image);
+pub fn fail(
+    rt: &impl Print,
+    what: &str,
+    call: Call,
+    image: &mut Image<256>,
+    service: usize,
+) -> io::Result<()> {
+    let old = image.bytes;
+    println!(rt; "{what}")?;
+    run(
+        rt,
+        call,
+        Host::new(&mut image.bytes, b"", &mut [], Pace::failing(service)),
+    )?;
+    host::changes(rt, &old, &image.bytes)
 }
 
 // A call in both forms, on images and buffers that are the same before.
 fn both(
-    what: &[u8],
+    rt: &impl Print,
     call: Call,
-    image: &mut [u8; 256],
+    image: &mut Image<256>,
     value: &[u8],
     buffer: &mut [u8],
     twin: &mut [u8],
-    host: Host,
-) {
+    pace: Pace,
+) -> io::Result<()> {
     let mut other = *image;
-    report::line(what);
-    let stepped = run(call, image, value, buffer, host);
-    let once = call::in_one(call, &mut other, value, twin);
-    if !Numbers::of(stepped).same(Numbers::of_answer(once)) {
-        report::line(b"  in one call: another answer");
-    } else if !host::same_image(image, &other) {
-        report::line(b"  in one call: another image");
-    } else if !report::same(buffer, twin) {
-        report::line(b"  in one call: another buffer");
+    let stepped = run(rt, call, Host::new(&mut image.bytes, value, buffer, pace))?;
+    let once = call.in_one(&mut other, value, twin);
+    let differs = if stepped != Request::Answers(once) {
+        "another answer"
+    } else if *image != other {
+        "another image"
+    } else if &*buffer != &*twin {
+        "another buffer"
     } else {
-        report::line(b"  in one call: same");
-    }
+        "same"
+    };
+    println!(rt; "  in one call: {differs}")
 }
 
 // All steps of a call, and its answer.
-fn run(call: Call, image: &mut [u8; 256], value: &[u8], buffer: &mut [u8], host: Host) -> Request {
-    let start = call::start(call, value.len(), buffer.len());
-    match start {
-        Ok(op) => go(op, image, value, buffer, host),
-        Err(refusal) => Request::Answers(Answer::Refused(refusal)),
+fn run(rt: &impl Print, call: Call, mut host: Host<'_>) -> io::Result<Request> {
+    match call.start(host.value.len(), host.buffer.len()) {
+        Ok(op) => {
+            let first = host.step(op, Reply::Begin);
+            let last = host.drive(rt, first)?;
+            println!(rt; "  answer: {}", last.request)?;
+            Ok(last.request)
+        }
+        Err(refusal) => Ok(Request::Answers(Answer::Refused(refusal))),
     }
-}
-
-fn go(op: Op, image: &mut [u8; 256], value: &[u8], buffer: &mut [u8], host: Host) -> Request {
-    let mut region = [0u8; 64];
-    let first = host::begin(op, &mut region, value, buffer);
-    let last = host::drive(first, image, &mut region, value, buffer, host);
-    let request = last.request;
-    host::outcome(b"  answer:", request);
-    request
 }

@@ -8,141 +8,126 @@ mod forms;
 
 use call::Call;
 use forms::{change, fail, get};
-use host::Host;
+use host::Pace;
+use report::Image;
+use std::io;
 
-fn main() {
+fn main(rt: HostRuntime) -> io::Result<()> {
     // One image goes from each of these to the next.
-    let mut image = [255u8; 256];
-    small_record(&mut image);
-    spilled_record(&mut image);
-    failures(&mut image);
-    removals(&mut image);
-    main_key();
-    bad_place();
+    let mut image = blank();
+    small_record(&rt, &mut image)?;
+    spilled_record(&rt, &mut image)?;
+    failures(&rt, &mut image)?;
+    removals(&rt, &mut image)?;
+    main_key(&rt)?;
+    bad_place(&rt)
+}
+
+fn blank() -> Image<256> {
+    Image {
+        s: 64,
+        n: 4,
+        bytes: [255; 256],
+    }
 }
 
 // Key 1 is at home in region 1.
-fn small_record(image: &mut [u8; 256]) {
+fn small_record(rt: &impl Print, image: &mut Image<256>) -> io::Result<()> {
     change(
-        b"append 1, 3 bytes",
+        rt,
+        "append 1, 3 bytes",
         Call::Append(1),
         image,
         &[7, 8, 9],
-        Host::ready(),
-    );
-    get(
-        b"get 1 into 5 bytes",
-        1,
-        image,
-        &mut [0; 5],
-        &mut [0; 5],
-        Host::ready(),
-    );
-    get(
-        b"get 1 into 2 bytes",
-        1,
-        image,
-        &mut [0; 2],
-        &mut [0; 2],
-        Host::slow(),
-    );
+        Pace::READY,
+    )?;
+    get::<5>(rt, "get 1 into 5 bytes", 1, image, Pace::READY)?;
+    get::<2>(rt, "get 1 into 2 bytes", 1, image, Pace::SLOW)?;
     change(
-        b"append 1 again",
+        rt,
+        "append 1 again",
         Call::Append(1),
         image,
         &[7],
-        Host::ready(),
-    );
+        Pace::READY,
+    )
 }
 
 // Key 5 is at home in region 1 too, whose 46 free bytes are too few for its 55.
-fn spilled_record(image: &mut [u8; 256]) {
+fn spilled_record(rt: &impl Print, image: &mut Image<256>) -> io::Result<()> {
     change(
-        b"append 5, 40 bytes",
+        rt,
+        "append 5, 40 bytes",
         Call::Append(5),
         image,
         &[5; 40],
-        Host::slow(),
-    );
-    get(
-        b"get 5 into 40 bytes",
-        5,
-        image,
-        &mut [0; 40],
-        &mut [0; 40],
-        Host::ready(),
-    );
-    get(
-        b"get 2 into 1 byte",
-        2,
-        image,
-        &mut [0; 1],
-        &mut [0; 1],
-        Host::ready(),
-    );
+        Pace::SLOW,
+    )?;
+    get::<40>(rt, "get 5 into 40 bytes", 5, image, Pace::READY)?;
+    get::<1>(rt, "get 2 into 1 byte", 2, image, Pace::READY)
 }
 
 // A failed service is not done, and ends the operation.
-fn failures(image: &mut [u8; 256]) {
-    let mut blank = [255u8; 256];
-    fail(b"get 5, its second read fails", Call::Get(5), image, 1);
-    fail(b"append 2, its write fails", Call::Append(2), image, 4);
+fn failures(rt: &impl Print, image: &mut Image<256>) -> io::Result<()> {
+    let mut other = blank();
+    fail(rt, "get 5, its second read fails", Call::Get(5), image, 1)?;
+    fail(rt, "append 2, its write fails", Call::Append(2), image, 4)?;
     fail(
-        b"initialise 1 on a blank image, its second erase fails",
+        rt,
+        "initialise 1 on a blank image, its second erase fails",
         Call::Initialise(1),
-        &mut blank,
+        &mut other,
         5,
-    );
+    )
 }
 
 // Both records become dead, and their two regions are collected.
-fn removals(image: &mut [u8; 256]) {
+fn removals(rt: &impl Print, image: &mut Image<256>) -> io::Result<()> {
     change(
-        b"invalidate 1",
+        rt,
+        "invalidate 1",
         Call::Invalidate(1),
         image,
         b"",
-        Host::slow(),
-    );
-    change(b"zeroise 5", Call::Zeroise(5), image, b"", Host::slow());
-    change(b"collect", Call::Collect, image, b"", Host::slow());
-    change(b"collect again", Call::Collect, image, b"", Host::ready());
+        Pace::SLOW,
+    )?;
+    change(rt, "zeroise 5", Call::Zeroise(5), image, b"", Pace::SLOW)?;
+    change(rt, "collect", Call::Collect, image, b"", Pace::SLOW)?;
+    change(rt, "collect again", Call::Collect, image, b"", Pace::READY)
 }
 
-fn main_key() {
-    let mut image = [255u8; 256];
+fn main_key(rt: &impl Print) -> io::Result<()> {
+    let mut image = blank();
+    let call = Call::Initialise(1);
     change(
-        b"initialise 1 on a blank image",
-        Call::Initialise(1),
+        rt,
+        "initialise 1 on a blank image",
+        call,
         &mut image,
         b"",
-        Host::slow(),
-    );
-    change(
-        b"initialise 1 again",
-        Call::Initialise(1),
-        &mut image,
-        b"",
-        Host::ready(),
-    );
+        Pace::SLOW,
+    )?;
+    change(rt, "initialise 1 again", call, &mut image, b"", Pace::READY)
 }
 
 // Region 2 begins with a version that is not known: collect ends there, and initialise starts anew.
-fn bad_place() {
-    let mut image = [255u8; 256];
-    image[128] = 2;
+fn bad_place(rt: &impl Print) -> io::Result<()> {
+    let mut image = blank();
+    image.bytes[128] = 2;
     change(
-        b"collect with a bad place in region 2",
+        rt,
+        "collect with a bad place in region 2",
         Call::Collect,
         &mut image,
         b"",
-        Host::ready(),
-    );
+        Pace::READY,
+    )?;
     change(
-        b"initialise 1 with a bad place in region 2",
+        rt,
+        "initialise 1 with a bad place in region 2",
         Call::Initialise(1),
         &mut image,
         b"",
-        Host::ready(),
-    );
+        Pace::READY,
+    )
 }

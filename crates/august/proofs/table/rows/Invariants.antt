@@ -5,7 +5,7 @@ use lib.ListN.{length}
 use Rattle.august.proofs.table.rows.Given as goal
 
 abbrev pub invariant-loop-rec : goal.invariant-loop-rec
-invariant-loop-rec l = l.at ≤ length l.region
+invariant-loop-rec g l = l.at ≤ length l.region
 
 abbrev pub decreases-loop-rec : goal.decreases-loop-rec
-decreases-loop-rec l = length l.region - l.at
+decreases-loop-rec g l = length l.region - l.at
