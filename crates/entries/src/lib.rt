@@ -2,12 +2,13 @@
 
 #![tactic(auto)]
 
-ghost use Rattle.std.specs.Prelude.{◌≡◌, ◌+◌, ◌≤◌, length};
-ghost use Rattle.entries.specs.Entries.{sound_in, entry_in, staying, going_on, shown_at};
+ghost use Rattle.std.specs.Prelude.{◌≡◌, ◌≤◌};
+ghost use Rattle.entries.specs.Entries.{entry_in, staying, going_on, shown_at};
 
+use chip::Chip;
 use format::{Fault, Record};
 use refusals::Refusal;
-use region::Stop;
+use region::{Standing, Stop};
 
 // R16.4: a place of a chip: a region, and a place in it. C and Rust see it as it is.
 #[repr(C)]
@@ -62,16 +63,6 @@ pub struct Shown {
     pub next: Place,
 }
 
-// R3.6, R16.4: whether the checksum of a record of a region is right.
-pub fn is_sound(region: &[u8], rec: Record) -> bool
-    requires { (15 ≤ rec.len) × (rec.at + rec.len ≤ length region.now) }
-    ensures { result ≡ sound_in region.now rec }
-{
-    let a = rec.at;
-    let e = a + rec.len;
-    format::check_sum_fits(&region[a..e])
-}
-
 // R16.4: what a walk of the region meets at a place of it.
 fn look_in(region: &[u8], at: usize) -> Entry
     ensures { result ≡ entry_in region.now at }
@@ -82,7 +73,7 @@ fn look_in(region: &[u8], at: usize) -> Entry
     match region::look(region, at) {
         Ok(rec) => Entry::Stands {
             rec,
-            sound: is_sound(region, rec),
+            sound: Standing { region, rec }.is_sound(),
         },
         Err(Stop::End(_)) => Entry::Ends,
         Err(Stop::Bad(fault, _)) => Entry::Bad(fault),
@@ -94,15 +85,13 @@ pub fn record_at(image: &[u8], s: usize, n: usize, region: usize, at: usize) -> 
     ensures { result ≡ shown_at image.now s n region at }
 {
     let here = Place { region, at };
-    if !chip::fits(image, s, n) {
+    let Some(chip) = Chip::of(image, s, n) else {
         return here.stay(Entry::Refused(Refusal::BadGeometry));
-    }
+    };
     if region >= n {
         return here.stay(Entry::Over);
     }
-    let a = region * s;
-    let e = a + s;
-    let entry = look_in(&image[a..e], at);
+    let entry = look_in(chip.region(region), at);
     match entry {
         Entry::Stands { rec, .. } => Shown {
             entry,

@@ -8,6 +8,7 @@ ghost use Rattle.lending.specs.Lending.{located_in, located_of, companion_of, va
 use format::Record;
 use plans::Answer;
 use refusals::Refusal;
+use region::Standing;
 
 // R16.1, R16.2: where a value lies: the image place of its first byte, and how many it has.
 #[derive(Clone, Copy)]
@@ -17,16 +18,16 @@ pub struct Part {
 }
 
 // R16.1, R16.2: by the record that was found, in its region, which begins at an image place. Nothing is handed out before the checksum is right.
-fn locate(region: &[u8], start: usize, rec: Record) -> Result<Part, Refusal>
-    requires { (15 ≤ rec.len) × (rec.at + rec.len ≤ length region.now) × (start + length region.now < 18446744073709551616) }
-    ensures { result ≡ located_in region.now start rec }
+fn locate(found: &Standing, start: usize) -> Result<Part, Refusal>
+    requires { start + length found.now.region.now < 18446744073709551616 }
+    ensures { result ≡ located_in found.now.region.now start found.now.rec }
 {
-    if !entries::is_sound(region, rec) {
+    if !found.is_sound() {
         return Err(Refusal::InvalidCheckSum);
     }
     Ok(Part {
-        place: start + rec.at + Record::HEADER_LENGTH,
-        len: rec.len - Record::LEAST,
+        place: start + found.rec.at + Record::HEADER_LENGTH,
+        len: found.rec.len - Record::LEAST,
     })
 }
 
@@ -38,8 +39,11 @@ pub fn find_value(image: &[u8], s: usize, n: usize, key: u64) -> Result<Part, Re
         Err(refusal) => Err(refusal),
         Ok(hit) => {
             let a = hit.region * s;
-            let e = a + s;
-            locate(&image[a..e], a, hit.rec)
+            let found = Standing {
+                region: &image[a..a + s],
+                rec: hit.rec,
+            };
+            locate(&found, a)
         }
     }
 }

@@ -11,11 +11,11 @@ use Rattle.entries.proofs.look_in.Goals as goal
 pub returns-then-region-at : goal.returns-then-region-at
 returns-then-region-at c = search (past_ends, rules)
 
--- src/lib.rt:64:28
-pub is_sound-requires : goal.is_sound-requires
-is_sound-requires c =
+pub invariant_of-is_sound : goal.invariant_of-is_sound
+invariant_of-is_sound c =
     let a = c.args in
-    met_lies a.region.now a.at _ _ c.look.ensures c.in-Ok.is
+    let l = met_lies a.region.now a.at _ _ c.look.ensures c.in-Ok.is in
+    record { least = l.0; inside = l.1 }
 
 -- src/lib.rt:52:1
 pub returns-in-Err-End : goal.returns-in-Err-End

@@ -19,20 +19,23 @@ pub overflow_mul-a : goal.overflow_mul-a
 overflow_mul-a c = let h = here (goal.at.overflow_mul-a c).In-Ok in omega (arith, h.inside, h.small)
 
 -- src/lib.rt:53:21
-pub overflow_add-e : goal.overflow_add-e
-overflow_add-e c = let h = here (goal.at.overflow_add-e c).In-Ok in omega (arith, h.inside, h.small)
+pub overflow_add-found : goal.overflow_add-found
+overflow_add-found c = let h = here (goal.at.overflow_add-found c).In-Ok in omega (arith, h.inside, h.small)
 
--- src/lib.rt:54:20
-pub slice_bounds-locate-end : goal.slice_bounds-locate-end
-slice_bounds-locate-end c = (here (goal.at.slice_bounds-locate-end c).In-Ok).inside
+pub slice_bounds-found-end : goal.slice_bounds-found-end
+slice_bounds-found-end c = (here (goal.at.slice_bounds-found-end c).In-Ok).inside
 
--- src/lib.rt:54:13
+pub invariant_of-found : goal.invariant_of-found
+invariant_of-found c =
+    let h = here (goal.at.invariant_of-found c).In-Ok in
+    let a = c.args in
+    record { least = h.found.least; inside = rw (part_region a.s a.image.now c.in-Ok.hit.region, h.size) h.found.fits }
+
 pub locate-requires : goal.locate-requires
 locate-requires c =
     let h = here (goal.at.locate-requires c).In-Ok in
     let a = c.args in
-    let part = part_region a.s a.image.now c.in-Ok.hit.region in
-    (h.found.least, rw (part, h.size) h.found.fits, rw (part, h.size) (omega (arith, h.inside, h.small)))
+    rw (part_region a.s a.image.now c.in-Ok.hit.region, h.size) (omega (arith, h.inside, h.small))
 
 -- src/lib.rt:45:1
 pub returns-in-Err : goal.returns-in-Err

@@ -9,10 +9,10 @@ use Rattle.lending.proofs.locate.Goals as goal
 pub returns-then-not-is_sound : goal.returns-then-not-is_sound
 returns-then-not-is_sound c =
     let a = c.args in
-    wrong_sum a.region.now a.start a.rec (sym c.is_sound.ensures ∙ not-true _ c.if-not-is_sound.true-raw)
+    wrong_sum a.found.now.region.now a.start a.found.now.rec (sym c.is_sound.ensures ∙ not-true _ c.if-not-is_sound.true-raw)
 
 -- src/lib.rt:29:1
 pub returns : goal.returns
 returns c =
     let a = c.args in
-    right_sum a.region.now a.start a.rec (sym c.is_sound.ensures ∙ not-false _ c.if-not-is_sound.false-raw)
+    right_sum a.found.now.region.now a.start a.found.now.rec (sym c.is_sound.ensures ∙ not-false _ c.if-not-is_sound.false-raw)
