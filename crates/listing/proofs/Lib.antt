@@ -1,3 +1,4 @@
 pub mod Listed
 pub mod Whole
 pub mod Theorems
+pub mod Passing

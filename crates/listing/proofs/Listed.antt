@@ -1,7 +1,7 @@
 -- What is still to be put, from a place of the chip on: a call for each record, until the chip is through or a place is bad.
 -- Assumes nothing.
 use Prim.Native.Nat.{ℕ, ◌+◌, ◌-◌, ◌*◌, ◌≤◌, ◌<◌}
-use native.Mathlib.Nat.{add-mul, one-mul, zero-mul, mul-le-mul_right}
+use native.Mathlib.Nat.{add-mul, one-mul, mul-le-mul_right}
 use native.Mathlib.Omega.{arith}
 use mathlib.Core.Bool.{Bool}
 use mathlib.Core.Path.{◌≡◌, refl, sym, ◌∙◌, ap, subst}
@@ -44,7 +44,7 @@ entry_shown r o (Entry.Bad g) = refl
 entry_shown r o Entry.Over = refl
 entry_shown r o (Entry.Refused w) = refl
 
-told : (image : List ℕ) (s n r o : ℕ) (h : Shown) (e : Entry) → h ≡ shown_at image s n r o → h.entry ≡ e → (entry_at image s n r o ≡ e) × (h ≡ shown r o e)
+pub told : (image : List ℕ) (s n r o : ℕ) (h : Shown) (e : Entry) → h ≡ shown_at image s n r o → h.entry ≡ e → (entry_at image s n r o ≡ e) × (h ≡ shown r o e)
 told image s n r o h e p q =
     let t : entry_at image s n r o ≡ e = sym (entry_shown r o (entry_at image s n r o)) ∙ ap (λ (z : Shown). z.entry) (sym p) ∙ q in
     (t, p ∙ ap (shown r o) t)
@@ -58,10 +58,6 @@ pub record Left (image : List ℕ) (s n : ℕ) (first page : Page) (here : Place
   pub as_long : length page.out.now ≡ length first.out.now
   pub text : sets page.out.now page.at (text_from image s n here.region here.at) ≡ sets first.out.now first.at (text_of (inventory image s n))
   pub ends : page.at + length (text_from image s n here.region here.at) ≡ first.at + length (text_of (inventory image s n))
-
--- how much is to be looked at yet: regions, and places of this one
-abbrev pub ahead : ℕ → ℕ → ℕ → ℕ → ℕ
-ahead s n r o = (n - r) * (s + 1) + (s - o)
 
 pub next_region : (r s : ℕ) → (r + 1) * s ≡ r * s + s
 next_region r s = add-mul r 1 s ∙ ap (λ (m : ℕ). r * s + m) (one-mul s)
@@ -127,11 +123,6 @@ module _ {image : List ℕ} {s n : ℕ} (f : Fits image s n) where
             ends = omega (arith, u.2, l.ends, ap length e, length-append (line_of r x) rest);
           })
 
-      pub less_stands : ahead s n h.next.region h.next.at < ahead s n r o
-      less_stands =
-          let y = lies in
-          subst (λ (z : Shown). ahead s n z.next.region z.next.at < ahead s n r o) (sym goes) (omega arith)
-
     -- The region ends there.
     module _ (h : Shown) (p : h ≡ shown_at image s n r o) (q : h.entry ≡ Entry.Ends) where
       over : (r < n) × (inventory_from image s n r o ≡ inventory_from image s n (r + 1) 0)
@@ -152,11 +143,6 @@ module _ {image : List ℕ} {s n : ℕ} (f : Fits image s n) where
             text = ap (sets page.out.now page.at) e ∙ l.text;
             ends = ap (λ (t : List ℕ). page.at + length t) e ∙ l.ends;
           })
-
-      pub less_ends : ahead s n h.next.region h.next.at < ahead s n r o
-      less_ends =
-          subst (λ (z : Shown). ahead s n z.next.region z.next.at < ahead s n r o) (sym on)
-          (omega (arith, ahead_region s n r over.0))
 
     -- The place is bad.
     module _ (h : Shown) (g : Fault) (p : h ≡ shown_at image s n r o) (q : h.entry ≡ Entry.Bad g) where
@@ -182,11 +168,6 @@ module _ {image : List ℕ} {s n : ℕ} (f : Fits image s n) where
             text = ap (sets page'.out.now page'.at) z ∙ u.1 ∙ ap (sets page.out.now page.at) e ∙ l.text;
             ends = omega (arith, ap length z, ap length e, u.2, l.ends);
           }
-
-      pub less_bad : ahead s n n 0 < ahead s n r o
-      less_bad =
-          let z : (n - n) * (s + 1) ≡ 0 = let d : n - n ≡ 0 = omega arith in rw d (zero-mul (s + 1)) in
-          omega (arith, ahead_region s n r ends_here.0)
 
     -- The chip is through. A chip's image is not refused.
     pub left_over : (h : Shown) → h ≡ shown_at image s n r o → (h.entry ≡ Entry.Over) ⊎ ((w : Refusal) × (h.entry ≡ Entry.Refused w)) → Puts first (text_of (inventory image s n)) page

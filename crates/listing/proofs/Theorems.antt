@@ -19,8 +19,9 @@ use Rattle.intake.specs.Intake.{intake_of}
 use Rattle.intake.proofs.Taken.{taken}
 use Rattle.lines.specs.Text.{line_of, header_line}
 use Rattle.lines.proofs.Written.{short_line, short_bad}
+use Rattle.listing.specs.Passing.{ahead}
 use Rattle.listing.specs.Listing.{lines_of, text_of, listing_by, listing, most_text, text_length}
-use Rattle.listing.proofs.Listed.{text_from, text_before, ahead, next_region, passed, ahead_region}
+use Rattle.listing.proofs.Listed.{text_from, text_before, next_region, passed, ahead_region}
 
 module _ {image : List ℕ} {s n : ℕ} (f : Fits image s n) where
   -- from a place on there are 40 bytes at most for each 15 that are left, and the line of a bad place

@@ -16,26 +16,57 @@ use lines::Page;
 // R16.10: a buffer of so many bytes takes the text of any input.
 pub const MOST_TEXT: usize = 180224;
 
-// The lines of a chip's records behind the header line. One pass: each call looks at one place, and says where the next is.
+// R16.6: a pass over a chip: what stands at each place, one after the other, up to the first bad one. Each call looks at one place.
+#[derive(Drop)]
+struct Entries<'a> {
+    image: &'a [u8],
+    s: usize,
+    n: usize,
+    here: Place,
+}
+
+impl Iterator for Entries<'_> {
+    ghost use Rattle.listing.specs.Passing.{Passes, to_come};
+
+    type Item = (Place, Entry);
+
+    ghost next_gives = { Passes };
+
+    ghost remaining = { to_come };
+
+    fn next(&mut self) -> Option<(Place, Entry)> {
+        let here = self.here;
+        let Shown { entry, next } = entries::record_at(
+            self.image,
+            self.s,
+            self.n,
+            here.region,
+            here.at,
+        );
+        self.here = match entry {
+            Entry::Stands { .. } | Entry::Ends => next,
+            // Nothing is behind a bad place, as nothing is behind the last region.
+            Entry::Bad(_) => Place {
+                region: self.n,
+                at: 0,
+            },
+            Entry::Over | Entry::Refused(_) => return None,
+        };
+        Some((here, entry))
+    }
+}
+
+// The lines of a chip's records behind the header line.
 fn list_from(image: &[u8], s: usize, n: usize, page: &mut Page)
     requires { (Fits image.now s n) × (n * s ≤ most_image) × (page.old.at ≤ 29) × (most_text ≤ length page.old.out.now) }
     ensures { Puts page.old (text_of (inventory image.now s n)) page.new }
 {
-    let mut here = Place { region: 0, at: 0 };
-    loop {
-        let Shown { entry, next } = entries::record_at(image, s, n, here.region, here.at);
+    let here = Place { region: 0, at: 0 };
+    for (place, entry) in (Entries { image, s, n, here }) {
         match entry {
-            Entry::Stands { rec, .. } => {
-                page.put_line(here.region, rec);
-                here = next;
-            }
-            Entry::Ends => here = next,
-            // A bad place ends the list: nothing is behind it, as nothing is behind the last region.
-            Entry::Bad(_) => {
-                page.put_bad(here.region, here.at);
-                here = Place { region: n, at: 0 };
-            }
-            Entry::Over | Entry::Refused(_) => return,
+            Entry::Stands { rec, .. } => page.put_line(place.region, rec),
+            Entry::Bad(_) => page.put_bad(place.region, place.at),
+            _ => {}
         }
     }
 }

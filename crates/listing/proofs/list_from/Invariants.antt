@@ -1,11 +1,10 @@
--- `listing::list_from` meets its contract: at each call what is still to be put, behind what is put, makes up the whole. Each call leaves less
--- to be looked at.
+-- `listing::list_from` meets its contract: at each entry what is still to be put, behind what is put, makes up the whole.
 -- Assumes nothing.
-use Rattle.listing.proofs.Listed.{Left, ahead}
+use Rattle.listing.proofs.Passing.{On}
 use Rattle.listing.proofs.list_from.Given as goal
 
-abbrev pub invariant-loop-rec : goal.invariant-loop-rec
-invariant-loop-rec l = Left l.image l.s l.n l.initial.page l.page l.here
-
-abbrev pub decreases-loop-rec : goal.decreases-loop-rec
-decreases-loop-rec l = ahead l.s l.n l.here.region l.here.at
+abbrev pub invariant-loop-place : goal.invariant-loop-place
+invariant-loop-place l =
+    goal.iterator-loop-place.can_next l.place-iterator
+    × goal.iterator-loop-place.is_finite l.place-iterator
+    × On l.fn.image l.fn.s l.fn.n l.initial.page l.page l.place-iterator
