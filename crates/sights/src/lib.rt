@@ -85,7 +85,7 @@ pub fn record_numbers(start: usize, rec: Record, sound: bool, next: Place) -> CE
     }
 }
 
-// R16.11: what stands at a place of a region of S bytes, and where to go on.
+// R16.11: what stands at a place of a region of S bytes, and where to go on. The kinds are numbers, since C reads them (c/stilefray.h).
 pub fn shown_numbers(s: usize, region: usize, shown: Shown) -> CEntry
     requires { StandsIn s region shown.entry }
     ensures { result ≡ shown_numbers s region shown }

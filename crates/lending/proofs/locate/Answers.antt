@@ -1,7 +1,6 @@
 -- `lending::locate` meets its contract: its test is the definition's.
 -- Assumes nothing.
 use mathlib.Core.Path.{sym, ◌∙◌}
-use borrow.Author.Tests.{not-true, not-false}
 use Rattle.lending.proofs.Lies.{wrong_sum, right_sum}
 use Rattle.lending.proofs.locate.Goals as goal
 
@@ -9,10 +8,10 @@ use Rattle.lending.proofs.locate.Goals as goal
 pub returns-then-not-is_sound : goal.returns-then-not-is_sound
 returns-then-not-is_sound c =
     let a = c.args in
-    wrong_sum a.found.now.region.now a.start a.found.now.rec (sym c.is_sound.ensures ∙ not-true _ c.if-not-is_sound.true-raw)
+    wrong_sum a.found.now.region.now a.start a.found.now.rec (sym c.is_sound.ensures ∙ c.if-not-is_sound.true)
 
 -- src/lib.rt:29:1
 pub returns : goal.returns
 returns c =
     let a = c.args in
-    right_sum a.found.now.region.now a.start a.found.now.rec (sym c.is_sound.ensures ∙ not-false _ c.if-not-is_sound.false-raw)
+    right_sum a.found.now.region.now a.start a.found.now.rec (sym c.is_sound.ensures ∙ c.if-not-is_sound.false)
