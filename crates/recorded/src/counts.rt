@@ -1,80 +1,47 @@
 // How many calls of each kind were replayed.
-use crate::line::Line;
+use crate::line::{Call, Line};
+use std::fmt;
 
-#[derive(Clone, Copy)]
+#[derive(Clone, Copy, Default)]
 pub struct Counts {
-    pub chips: usize,
-    pub gets: usize,
-    pub appends: usize,
-    pub invalidates: usize,
-    pub zeroises: usize,
-    pub collects: usize,
-    pub initialises: usize,
-    pub refusals: usize,
+    chips: usize,
+    gets: usize,
+    appends: usize,
+    invalidates: usize,
+    zeroises: usize,
+    collects: usize,
+    initialises: usize,
+    refusals: usize,
 }
 
 impl Counts {
-    pub fn new() -> Counts {
-        Counts {
-            chips: 0,
-            gets: 0,
-            appends: 0,
-            invalidates: 0,
-            zeroises: 0,
-            collects: 0,
-            initialises: 0,
-            refusals: 0,
+    // One more line.
+    pub fn add(&mut self, line: &Line) {
+        match line.call {
+            Call::Chip => self.chips = self.chips.saturating_add(1),
+            Call::Get => self.gets = self.gets.saturating_add(1),
+            Call::Append => self.appends = self.appends.saturating_add(1),
+            Call::Invalidate => self.invalidates = self.invalidates.saturating_add(1),
+            Call::Zeroise => self.zeroises = self.zeroises.saturating_add(1),
+            Call::Collect => self.collects = self.collects.saturating_add(1),
+            Call::Initialise => self.initialises = self.initialises.saturating_add(1),
+            Call::Last | Call::Other => {}
+        }
+        if line.refusal != 0 {
+            self.refusals = self.refusals.saturating_add(1);
         }
     }
-
-    // With one more line.
-    pub fn and(self, line: Line) -> Counts {
-        Counts {
-            chips: more(self.chips, line.op == Line::CHIP),
-            gets: more(self.gets, line.op == Line::GET),
-            appends: more(self.appends, line.op == Line::APPEND),
-            invalidates: more(self.invalidates, line.op == Line::INVALIDATE),
-            zeroises: more(self.zeroises, line.op == Line::ZEROISE),
-            collects: more(self.collects, line.op == Line::COLLECT),
-            initialises: more(self.initialises, line.op == Line::INITIALISE),
-            refusals: more(self.refusals, line.refusal != 0),
-        }
-    }
-
-    pub fn print(self) {
-        row(b"chips", self.chips);
-        row(b"get", self.gets);
-        row(b"append", self.appends);
-        row(b"invalidate", self.invalidates);
-        row(b"zeroise", self.zeroises);
-        row(b"collect", self.collects);
-        row(b"initialise", self.initialises);
-        row(b"of these refused", self.refusals);
-    }
 }
 
-// A count, one more where it is due. It stops far above what the list has.
-fn more(count: usize, due: bool) -> usize {
-    if !due {
-        return count;
+impl fmt::Display for Counts {
+    fn fmt<W: fmt::Write>(&self, f: &mut fmt::Formatter<W>) -> fmt::Result {
+        writeln!(f, "chips {}", self.chips)?;
+        writeln!(f, "get {}", self.gets)?;
+        writeln!(f, "append {}", self.appends)?;
+        writeln!(f, "invalidate {}", self.invalidates)?;
+        writeln!(f, "zeroise {}", self.zeroises)?;
+        writeln!(f, "collect {}", self.collects)?;
+        writeln!(f, "initialise {}", self.initialises)?;
+        write!(f, "of these refused {}", self.refusals)
     }
-    if 1000000 <= count {
-        return count;
-    }
-    count + 1
-}
-
-fn row(what: &[u8], count: usize) {
-    io::write_all(1, what);
-    io::write_all(1, b" ");
-    io::print_decimal(1, count as u64);
-    io::write_all(1, b"\n");
-}
-
-// The line on which the store does something else than the crate did.
-pub fn differs(lines: usize) {
-    row(
-        b"another answer, image or buffer than the crate's, after lines",
-        lines,
-    );
 }

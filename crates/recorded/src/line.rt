@@ -1,9 +1,44 @@
 // A line of the list: eight numbers.
+ghost use Rattle.std.specs.Prelude.{◌≤◌, length};
+ghost use Rattle.std.specs.Iterator.{endless};
+
+// What a line's first number says.
+#[derive(Clone, Copy, PartialEq, Eq)]
+pub enum Call {
+    // No call: a chip begins here.
+    Chip,
+    Get,
+    Append,
+    Invalidate,
+    Zeroise,
+    Collect,
+    Initialise,
+    // No call: the list ends here.
+    Last,
+    // A number that stands for none, made as an initialise that answers as an append does.
+    Other,
+}
+
+impl From<u64> for Call {
+    fn from(number: u64) -> Call {
+        match number {
+            0 => Call::Chip,
+            1 => Call::Get,
+            2 => Call::Append,
+            3 => Call::Invalidate,
+            4 => Call::Zeroise,
+            5 => Call::Collect,
+            6 => Call::Initialise,
+            9 => Call::Last,
+            _ => Call::Other,
+        }
+    }
+}
 
 // A call and what the crate made of it.
 #[derive(Clone, Copy)]
 pub struct Line {
-    pub op: u64,
+    pub call: Call,
     pub key: u64,
     // Of get's buffer or append's value.
     pub length: u64,
@@ -15,79 +50,45 @@ pub struct Line {
     // The checksums of get's buffer and of the image after the call.
     pub buffer: u64,
     pub image: u64,
-    // Where the next line begins.
-    pub end: usize,
 }
 
-// A number and where it ends.
+// The numbers of a text. A byte that is no digit ends one. Behind the last come zeros.
 #[derive(Clone, Copy)]
-struct Digits {
-    value: u64,
-    end: usize,
-}
+pub struct Numbers<'a>(pub &'a [u8]);
 
-impl Line {
-    pub const CHIP: u64 = 0;
-
-    pub const GET: u64 = 1;
-
-    pub const APPEND: u64 = 2;
-
-    pub const INVALIDATE: u64 = 3;
-
-    pub const ZEROISE: u64 = 4;
-
-    pub const COLLECT: u64 = 5;
-
-    pub const INITIALISE: u64 = 6;
-
-    pub const LAST: u64 = 9;
-
-    pub fn read(text: &[u8], at: usize) -> Line {
-        let op = number(text, at);
-        let key = number(text, op.end);
-        let length = number(text, key.end);
-        let seed = number(text, length.end);
-        let refusal = number(text, seed.end);
-        let value = number(text, refusal.end);
-        let buffer = number(text, value.end);
-        let image = number(text, buffer.end);
-        Line {
-            op: op.value,
-            key: key.value,
-            length: length.value,
-            seed: seed.value,
-            refusal: refusal.value,
-            value: value.value,
-            buffer: buffer.value,
-            image: image.value,
-            end: image.end,
-        }
+impl<'a> Numbers<'a> {
+    fn take(&mut self) -> u64 {
+        let text = self.0;
+        let mut parts = text.splitn(2, |byte| !byte.is_ascii_digit());
+        let digits = parts.next().unwrap_or(b"");
+        self.0 = parts.next().unwrap_or(b"");
+        digits
+            .iter()
+            .fold(0, |value, digit| with_digit(value, *digit))
     }
 }
 
-// The number at a place, with the byte that ends it. What is no digit ends it.
-fn number(text: &[u8], at: usize) -> Digits {
-    let mut value: u64 = 0;
-    let mut i = at;
-    while i < text.len() {
-        let byte = text[i];
-        i += 1;
-        if !is_digit(byte) {
-            break;
-        }
-        value = with_digit(value, byte);
-    }
-    Digits { value, end: i }
-}
+// The lines of the list, one after the other.
+impl<'a> Iterator for Numbers<'a> {
+    type Item = Line;
 
-fn is_digit(byte: u8) -> bool {
-    48 <= byte && byte <= 57
+    fn next(&mut self) -> Option<Line> {
+        Some(Line {
+            call: Call::from(self.take()),
+            key: self.take(),
+            length: self.take(),
+            seed: self.take(),
+            refusal: self.take(),
+            value: self.take(),
+            buffer: self.take(),
+            image: self.take(),
+        })
+    }
 }
 
 // A number with one more digit behind it; it stays as it is where it would have more than 64 bits.
 fn with_digit(value: u64, byte: u8) -> u64 {
-    let digit = (byte % 16) as u64;
+    let digit = u64::from(byte % 16);
     if value < 1844674407370955161 {
         return value * 10 + digit % 10;
     }

@@ -7,51 +7,47 @@ mod chips;
 mod counts;
 mod line;
 
-ghost use Rattle.std.specs.Prelude.{◌≡◌, length};
-
 use chips::Chip;
 use counts::Counts;
-use line::Line;
+use line::{Call, Numbers};
+use std::io;
+use std::io::Read;
 
-// More lines than the list has.
+// More lines than the list has, and more bytes.
 const MOST_LINES: usize = 10000;
 
-fn main() {
-    let mut text = room();
-    let mut flash = io::large_buffer();
-    let len = io::read_full(0, &mut text);
-    replay(&text[..len], &mut flash);
-}
+const MOST_BYTES: u64 = 262144;
 
-// Room for the list.
-fn room() -> [u8; 262144]
-    ensures { 262144 ≡ length result }
-{
-    [0; 262144]
+// The most bytes that a chip has, or that a call is lent.
+const ROOM: usize = 65536;
+
+fn main(rt: HostRuntime) -> io::Result<()> {
+    let alloc = rt.alloc();
+    let mut text = Vec::new(alloc);
+    rt.reader().take(MOST_BYTES).read_to_end(&mut text)?;
+    let mut flash = vec![in alloc; 0; ROOM]?;
+    let mut room = vec![in alloc; 0; ROOM]?;
+    replay(&rt, &text, &mut flash, &mut room)
 }
 
 // The lines in their order, up to the last, or to the first on which the store does something else than the crate did.
-fn replay(text: &[u8], flash: &mut [u8; 65536]) {
-    let mut counts = Counts::new();
-    let mut chip = Chip::new();
-    let mut at: usize = 0;
-    let mut lines: usize = 0;
-    while lines < MOST_LINES {
-        let line = Line::read(text, at);
-        if line.op == Line::LAST {
-            counts.print();
-            return;
+fn replay(rt: &impl Print, text: &[u8], flash: &mut [u8], room: &mut [u8]) -> io::Result<()> {
+    let mut counts = Counts::default();
+    let mut chip = Chip::default();
+    for (lines, line) in Numbers(text).take(MOST_LINES).enumerate() {
+        if line.call == Call::Last {
+            return println!(rt; "{counts}");
         }
-        if line.op == Line::CHIP {
-            chip = Chip::of(line);
+        if line.call == Call::Chip {
+            chip = Chip::of(&line);
             chip::erase(flash);
-        } else if !chip.agrees(line, flash) {
-            counts.print();
-            counts::differs(lines);
-            return;
+        } else if !chip.agrees(&line, flash, room) {
+            println!(rt; "{counts}")?;
+            return println!(rt;
+                "another answer, image or buffer than the crate's, after lines {lines}"
+            );
         }
-        counts = counts.and(line);
-        at = line.end;
-        lines += 1;
+        counts.add(&line);
     }
+    Ok(())
 }
