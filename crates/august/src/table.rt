@@ -15,7 +15,7 @@ pub fn show(rt: &impl Print, chip: &Chip) -> io::Result<()> {
     Ok(())
 }
 
-// The walk of a region, as the store's calls walk it.
+// The walk of a region, as the store's calls walk it: a loop and no iterator, since each step is as long as the record that it meets.
 fn rows(rt: &impl Print, r: usize, region: &[u8]) -> io::Result<()> {
     let mut at: usize = 0;
     loop {
