@@ -14,6 +14,7 @@ pub const LARGEST_SIZE: usize = 4096;
 pub const MOST_REGIONS: usize = 64;
 
 // Whether a chip may have n regions of s bytes.
+#[tactic(auto, unfolding(crate::specs::Geometry::sized))]
 pub fn is_sized(s: usize, n: usize) -> bool
     ensures { result ≡ sized s n }
 {
@@ -21,6 +22,7 @@ pub fn is_sized(s: usize, n: usize) -> bool
 }
 
 // Whether the image is one of n regions of s bytes. Their product is taken only where the limits keep it small.
+#[tactic(auto, unfolding(crate::specs::Geometry::geometry), using(crate::proofs::Image::sized_shape, crate::proofs::Image::all_small))]
 pub fn fits(image: &[u8], s: usize, n: usize) -> bool
     ensures { result ≡ geometry image.now s n }
 {

@@ -40,6 +40,7 @@ pub fn dead_header(rec: Record) -> [u8; 11]
 }
 
 // Whether the checksum at the end of a record's bytes is that of its header and value.
+#[tactic(auto, unfolding(crate::specs::Layout::check_sum_fits))]
 pub fn check_sum_fits(bytes: &[u8]) -> bool
     requires { 4 ≤ length bytes.now }
     ensures { result ≡ check_sum_fits bytes.now }

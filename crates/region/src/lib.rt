@@ -20,6 +20,7 @@ pub enum Stop {
 }
 
 // R4.8: what is looked for: a live record of the key, or any live record.
+// Not an Option of a key: None would read as nothing looked for, where it is any.
 #[derive(Clone, Copy)]
 pub enum Want {
     Key(u64),

@@ -67,6 +67,7 @@ pub fn look(region: &[u8], at: usize) -> Result<Record, Stop>
 }
 
 // One walk serves every search: each record is 15 bytes or longer, so the bytes left bound it.
+// Not an iterator over the records: its None would lose where and why the walk stopped, which is a part of the answer.
 pub fn find(region: &[u8], want: Want) -> Event
     ensures { result ≡ event_in region.now want }
 {
