@@ -49,7 +49,7 @@ impl Landing for Written {
     }
 }
 
-// Bytes land from a place on.
+// Bytes land from a place on. Of the elements behind a zip of `iter_mut` the checker knows nothing: so by the place of each.
 pub fn land<L: Landing>(part: &mut [u8], at: usize, new: &[u8])
     requires { at + length new.now ≤ length part.old }
     ensures { part.new ≡ L.landed part.old at new.now }

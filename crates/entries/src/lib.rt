@@ -41,7 +41,7 @@ impl Place {
     }
 }
 
-// R16.4: what stands at a place of a chip.
+// R16.4: what stands at a place of a chip: the five kinds that C is told (`CEntry`), refused among them.
 #[derive(Clone, Copy)]
 pub enum Entry {
     // A record, and whether its checksum is right.

@@ -90,9 +90,6 @@ pub record Reading (text : List ℕ) (v : ℕ) (rest : List ℕ) : Type 0 where
   pub value_same : held (number_in rest v 0).value ≡ held (number_in text 0 0).value
   pub rest_same : behind rest ≡ behind text
 
-pub reading_starts : {text : List ℕ} → Reading text 0 text
-reading_starts = record { small = omega arith; value_same = refl; rest_same = refl }
-
 -- What is read: the number, held, and what stands behind it.
 abbrev pub Reads : List ℕ → ℕ → List ℕ → Type 0
 Reads text v rest = (v ≡ held (number_in text 0 0).value) × (rest ≡ behind text)

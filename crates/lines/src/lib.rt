@@ -42,7 +42,7 @@ impl<'a> Page<'a> {
         self.put(&[end]);
     }
 
-    // R16.8: a number in decimal and the byte behind it.
+    // R16.8: a number in decimal and the byte behind it. By the kit's `decimal` (and `hex`), whose contracts say the digits in a fixed buffer.
     pub fn put_field(&mut self, n: usize, end: u8)
         requires { (n < 100000) × HasRoom self.old 6 }
         ensures { Puts self.old (field n end) self.new }

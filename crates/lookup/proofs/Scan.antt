@@ -99,17 +99,6 @@ found {image} {s} {n} key need r x f h =
 
 -- What is gathered.
 
--- what a region that does not decide adds
-pub noted_kept : (seen : Seen) (need : Option ℕ) (r : ℕ) (region : List ℕ) (o len : ℕ) {room : Room} → need ≡ Some len → seen.room ≡ Some room → seen ≡ noted seen need r region o
-noted_kept seen need r region o len e h = rw (e, h)
-
-pub noted_full : (seen : Seen) (need : Option ℕ) (r : ℕ) (region : List ℕ) (o len : ℕ) → need ≡ Some len → seen.room ≡ None → length region < o + len → seen ≡ noted seen need r region o
-noted_full seen need r region o len e h l = rw (e, h, lt-leb (o + len) (length region) l)
-
-pub noted_new : (seen : Seen) (need : Option ℕ) (r : ℕ) (region : List ℕ) (o len : ℕ) → need ≡ Some len → seen.room ≡ None → o + len ≤ length region
-    → with_room (some_room r o (is_blank (take len (drop o region)))) seen ≡ noted seen need r region o
-noted_new seen need r region o len e h l = rw (e, h, le-leb (o + len) (length region) l)
-
 abbrev room_or : Option Room → Room → Room
 room_or None room = room
 room_or (Some room) other = room

@@ -55,13 +55,12 @@ fn bad_calls(rt: &impl Print) -> io::Result<()> {
 // A bad call leaves the operation as it was: it goes on from its second request.
 fn bad_appends(rt: &impl Print, op: Op, image: &mut [u8; 256]) -> io::Result<()> {
     let value = [7, 8, 9];
-    let mut region = [0; 64];
     let mut host = Host::new(image, &value, &mut [], Pace::READY);
     let first = host.step(op, Reply::Begin);
     let op = host.beat(rt, first, 0)?.op;
     let now = steps::step(op, Reply::Done, &mut [0; 63], &value, &mut []);
     let op = said(rt, "region buffer of 63 bytes", now)?;
-    let now = steps::step(op, Reply::Done, &mut region, &[7, 8], &mut []);
+    let now = steps::step(op, Reply::Done, &mut host.region, &[7, 8], &mut []);
     let op = said(rt, "value of 2 bytes", now)?;
     let now = host.step(op, Reply::Begin);
     let op = said(rt, "begin at the second step", now)?;
@@ -72,12 +71,11 @@ fn bad_appends(rt: &impl Print, op: Op, image: &mut [u8; 256]) -> io::Result<()>
 // The same before the first request, after it, and after the end.
 fn bad_gets(rt: &impl Print, op: Op, image: &mut [u8; 256]) -> io::Result<()> {
     let mut buffer = [0; 5];
-    let mut region = [0; 64];
     let mut host = Host::new(image, b"", &mut buffer, Pace::READY);
     let now = host.step(op, Reply::Done);
     let op = said(rt, "done at the first step", now)?;
     let op = host.step(op, Reply::Begin).op;
-    let now = steps::step(op, Reply::Done, &mut region, b"", &mut [0; 6]);
+    let now = steps::step(op, Reply::Done, &mut host.region, b"", &mut [0; 6]);
     let op = said(rt, "buffer of 6 bytes", now)?;
     let op = finish(rt, op, &mut host)?;
     let now = host.step(op, Reply::Done);

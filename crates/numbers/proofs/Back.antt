@@ -103,10 +103,6 @@ pub whole_packed : (op : Op) → over op.plan ≡ false → few op.plan.edits �
 unfolding packed
 whole_packed op v h = rw (v, h)
 
--- what a start hands out
-pub looks_packed : (op : Op) → Looks op → packed op ≡ in_numbers op no_slot (next_numbers op.plan.next)
-looks_packed op l = whole_packed op l.goes_on (ap few l.no_edit) ∙ ap (λ (es : Edits). in_numbers op (slot_of es) (next_numbers op.plan.next)) l.no_edit
-
 read_back : (op : Op) → few op.plan.edits ≡ true → Back op (slot_of op.plan.edits) op.plan.next → read_as (whole op) ≡ op
 unfolding read_as
 read_back op h e = λ i. record {

@@ -1,7 +1,6 @@
 // A running operation in numbers.
 ghost use Rattle.std.specs.Prelude.{◌≡◌};
-ghost use Rattle.plans.specs.Writes.{first};
-ghost use Rattle.numbers.specs.Packs.{lent_number, lent_length, slot_at, kill_number, edit_numbers, slot_of, few, aim_number, next_at, seek_numbers, end_numbers, next_numbers, is_nothing, over, fresh_number, in_numbers, packed, start_numbers, Looks, start_looks};
+ghost use Rattle.numbers.specs.Packs.{lent_number, lent_length, slot_at, kill_number, edit_numbers, slot_of, few, aim_number, next_at, seek_numbers, end_numbers, next_numbers, over, fresh_number, in_numbers, packed, start_numbers, Looks, start_looks};
 
 use crate::CStart;
 use format::Removal;

@@ -41,6 +41,7 @@ pub struct COperation {
 }
 
 impl COperation {
+    // The kinds are numbers, since C reads and keeps them (R12.4).
     // Before there was such a number, the first one was a job's, 1 to 7.
     pub const LAYOUT: u32 = 8;
 

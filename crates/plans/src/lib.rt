@@ -88,7 +88,8 @@ pub enum Edit {
     },
 }
 
-// R8.10: what is still to be written or erased, one after the other (R9.7). Erases: the regions from one up to another.
+// R8.10: what is still to be written or erased, one after the other (R9.7). Erases: the regions from one up to another. By value, as nothing is
+// allocated; no iterator, since a step looks at the first edit and a later one drops it.
 #[derive(Clone, Copy)]
 pub enum Edits {
     Nil,

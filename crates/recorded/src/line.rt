@@ -1,6 +1,4 @@
 // A line of the list: eight numbers.
-ghost use Rattle.std.specs.Prelude.{◌≤◌, length};
-ghost use Rattle.std.specs.Iterator.{endless};
 
 // What a line's first number says.
 #[derive(Clone, Copy, PartialEq, Eq)]

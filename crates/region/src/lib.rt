@@ -12,7 +12,7 @@ use format::{Fault, Record};
 pub use standing::Standing;
 pub use walk::{find, look};
 
-// R4.7: how and where the walk of a region stopped: at its end, or at a bad place.
+// R4.7: how and where the walk of a region stopped: at its end, or at a bad place. No Result: an end is no value of the walk, nor a bad place its error.
 #[derive(Clone, Copy)]
 pub enum Stop {
     End(usize),

@@ -5,7 +5,6 @@ ghost use Rattle.sweeping.specs.Sweeps.{verdict, swept_to, sweep_plan};
 
 use crate::Verdict;
 use plans::{Answer, Edit, Edits, Plan, Then};
-use refusals::Refusal;
 use region::{Event, Want};
 
 // What becomes of region r: the first live record or bad place decides.
