@@ -2,13 +2,13 @@
 
 #![tactic(auto)]
 
-ghost use Rattle.std.specs.Prelude.{◌≡◌, ◌+◌, ◌<◌, length};
+ghost use Rattle.std.specs.Prelude.{◌≡◌, ◌*◌, length};
 ghost use Rattle.lending.specs.Lending.{located_in, located_of, companion_of, value_of};
 
 use format::Record;
+use lookup::Found;
 use plans::Answer;
 use refusals::Refusal;
-use region::Standing;
 
 // R16.1, R16.2: where a value lies: the image place of its first byte, and how many it has.
 #[derive(Clone, Copy)]
@@ -17,17 +17,17 @@ pub struct Part {
     pub len: usize,
 }
 
-// R16.1, R16.2: by the record that was found, in its region, which begins at an image place. Nothing is handed out before the checksum is right.
-fn locate(found: &Standing, start: usize) -> Result<Part, Refusal>
-    requires { start + length found.now.region.now < 18446744073709551616 }
-    ensures { result ≡ located_in found.now.region.now start found.now.rec }
+// R16.1, R16.2: by the record that was found. Nothing is handed out before the checksum is right.
+fn locate(found: &Found) -> Result<Part, Refusal>
+    ensures { result ≡ located_in found.now.standing.region.now (found.now.region * length found.now.standing.region.now) found.now.standing.rec }
 {
-    if !found.is_sound() {
+    let standing = &found.standing;
+    if !standing.is_sound() {
         return Err(Refusal::InvalidCheckSum);
     }
     Ok(Part {
-        place: start + found.rec.at + Record::HEADER_LENGTH,
-        len: found.rec.len - Record::LEAST,
+        place: found.start() + standing.rec.at + Record::HEADER_LENGTH,
+        len: standing.value_length(),
     })
 }
 
@@ -35,17 +35,8 @@ fn locate(found: &Standing, start: usize) -> Result<Part, Refusal>
 pub fn find_value(image: &[u8], s: usize, n: usize, key: u64) -> Result<Part, Refusal>
     ensures { result ≡ located_of image.now s n key }
 {
-    match lookup::find_key(image, s, n, key) {
-        Err(refusal) => Err(refusal),
-        Ok(hit) => {
-            let a = hit.region * s;
-            let found = Standing {
-                region: &image[a..a + s],
-                rec: hit.rec,
-            };
-            locate(&found, a)
-        }
-    }
+    let found = lookup::find_standing(image, s, n, key)?;
+    locate(&found)
 }
 
 // R16.1: the companion of `value_of`: get's refusal, and never BufferTooSmall, or Complete with the value's length.

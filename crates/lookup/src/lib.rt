@@ -2,6 +2,7 @@
 
 #![tactic(auto)]
 
+mod found;
 mod gather;
 mod turns;
 
@@ -10,8 +11,9 @@ ghost use Rattle.lookup.specs.Gather.{unseen, with_room};
 ghost use Rattle.lookup.specs.Turns.{refused_by, hit_by, close};
 
 use format::{Fault, Record};
+pub use found::Found;
 use refusals::Refusal;
-pub use turns::{find_key, look_up, take_turn};
+pub use turns::{find_key, find_standing, look_up, take_turn};
 
 // R5.4: a region with room, the place there, and whether the record's place is blank.
 #[derive(Clone, Copy)]

@@ -3,24 +3,17 @@ ghost use Rattle.std.specs.Prelude.{◌≡◌};
 ghost use Rattle.store.specs.Read.{get_of};
 
 use plans::Answer;
-use region::Standing;
 
 // R5.2: get.
 pub fn get_key(image: &[u8], s: usize, n: usize, key: u64, buffer: &mut [u8]) -> Answer
     ensures { (result ≡ (get_of image.now s n key buffer.old).answer) × (buffer.new ≡ (get_of image.now s n key buffer.old).buffer) }
 {
-    match lookup::find_key(image, s, n, key) {
+    match lookup::find_standing(image, s, n, key) {
         Err(refusal) => Answer::Refused(refusal),
-        Ok(hit) => {
-            let a = hit.region * s;
-            let e = a + s;
-            let found = Standing {
-                region: &image[a..e],
-                rec: hit.rec,
-            };
+        Ok(found) => {
             let capacity = buffer.len();
-            values::copy_value(&found, buffer);
-            values::read_answer(&found, capacity)
+            values::copy_value(&found.standing, buffer);
+            values::read_answer(&found.standing, capacity)
         }
     }
 }

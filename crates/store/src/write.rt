@@ -6,7 +6,7 @@ ghost use Rattle.plans.specs.Writes.{listed, edited, applied};
 ghost use Rattle.plans.specs.Fits.{edit_fits, edits_fit};
 ghost use Rattle.store.specs.Write.{end_of, carried, append_of, remove_of, initialise_of};
 
-use chip::Written;
+use chip::{Chip, Written};
 use format::{Record, Removal};
 use plans::{Answer, Edit, Edits, Plan, Then};
 use refusals::Refusal;
@@ -71,7 +71,12 @@ pub fn append_key(image: &mut [u8], s: usize, n: usize, key: u64, value: &[u8]) 
         return Answer::Refused(refusal);
     }
     let need = Some(value.len() + Record::LEAST);
-    let looked = lookup::look_up(&image[..], s, n, key, need);
+    let chip = Chip {
+        image: &image[..],
+        s,
+        n,
+    };
+    let looked = lookup::look_up(&chip, key, need);
     let plan = planning::append_plan(looked);
     carry_out(image, s, n, plan, key, value)
 }

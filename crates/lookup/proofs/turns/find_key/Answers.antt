@@ -11,8 +11,8 @@ unfolding hit_of
 returns-in_err-first_refusal c =
     let p = err_from_is_err_and c.from_residual.result c.from_residual.ensures.1 in rw (p.1, p.2, sym c.in_err-first_refusal.ensures)
 
-pub look_up-looked-requires : goal.look_up-looked-requires
-look_up-looked-requires c = let a = c.args in (fine a.image.now a.s a.n a.key 0 (sym c.in_ok-first_refusal.ensures)).0
+pub invariant_of-chip : goal.invariant_of-chip
+invariant_of-chip c = let a = c.args in record { fits = (fine a.image.now a.s a.n a.key 0 (sym c.in_ok-first_refusal.ensures)).0 }
 
 pub returns : goal.returns
 unfolding hit_of

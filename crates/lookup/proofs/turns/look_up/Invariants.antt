@@ -7,4 +7,6 @@ use Rattle.lookup.specs.Turns.{look_from, lookup_in}
 use Rattle.lookup.proofs.turns.look_up.Given as goal
 
 abbrev pub invariant-loop-i : goal.invariant-loop-i
-invariant-loop-i l = look_from l.seen l.key l.need l.s l.image (drop l.i (probes l.key l.n)) ≡ lookup_in l.key l.need l.s l.image (probes l.key l.n)
+invariant-loop-i l =
+    let c = l.chip in
+    look_from l.seen l.key l.need c.s c.image.now (drop l.i (probes l.key c.n)) ≡ lookup_in l.key l.need c.s c.image.now (probes l.key c.n)

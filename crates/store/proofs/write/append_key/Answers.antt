@@ -17,8 +17,8 @@ pub returns-in-Err : goal.returns-in-Err
 unfolding append_of
 returns-in-Err c = rw (sym c.first_refusal-check.ensures ∙ c.in-Err.is) (refl, refl)
 
-pub look_up-looked-requires : goal.look_up-looked-requires
-look_up-looked-requires c = (allowed (goal.at.look_up-looked-requires c).In_default).0
+pub invariant_of-chip : goal.invariant_of-chip
+invariant_of-chip c = record { fits = (allowed (goal.at.invariant_of-chip c).In_default).0 }
 
 pub carry_out-requires : goal.carry_out-requires
 carry_out-requires c =
