@@ -1,5 +1,5 @@
 // Whether a plan lies in a chip of n regions of s bytes, and is one for what is lent.
-ghost use Rattle.std.specs.Prelude.{◌≡◌, ◌≤◌};
+ghost use Rattle.std.specs.Prelude.{◌≡◌, ◌≤◌, ◌&&◌, ltb};
 ghost use Rattle.plans.specs.declared.Edits.TheVariants.{Two, Three};
 ghost use Rattle.plans.specs.declared.Then.TheVariants.{Seek};
 ghost use Rattle.plans.specs.Writes.{value_lent};
@@ -21,91 +21,14 @@ fn record_fits(s: usize, rec: Record) -> bool
     rec.len >= Record::LEAST && rec.len <= Record::MOST && lies_in(rec.at, rec.len, s)
 }
 
-// A place for a record whose value has so many bytes.
-fn place_fits(s: usize, n: usize, len: usize, r: usize, at: usize) -> bool
-    requires { len ≤ 4079 }
-    ensures { result ≡ place_fits s n len r at }
-{
-    r < n && lies_in(at, len + Record::LEAST, s)
-}
-
-pub fn edit_fits(s: usize, n: usize, len: usize, edit: Edit) -> bool
-    requires { len ≤ 4079 }
-    ensures { result ≡ edit_fits s n len edit }
-{
-    match edit {
-        Edit::Lay { region, at } => place_fits(s, n, len, region, at),
-        Edit::Kill {
-            how: _,
-            region,
-            rec,
-        } => region < n && record_fits(s, rec),
-        Edit::Erase { region } => region < n,
-    }
-}
-
-pub fn edits_fit(s: usize, n: usize, len: usize, edits: Edits) -> bool
-    requires { len ≤ 4079 }
-    ensures { result ≡ edits_fit s n len edits }
-{
-    match edits {
-        Edits::Nil => true,
-        Edits::One(e) => edit_fits(s, n, len, e),
-        Edits::Two(e, f) => edit_fits(s, n, len, e) && edit_fits(s, n, len, f),
-        Edits::Three(e, f, g) => {
-            edit_fits(s, n, len, e) && edit_fits(s, n, len, f) && edit_fits(s, n, len, g)
-        }
-        Edits::Erases { from: _, to } => to <= n,
-    }
-}
-
-fn room_fits(s: usize, n: usize, len: usize, room: Option<Room>) -> bool
-    requires { len ≤ 4079 }
-    ensures { result ≡ room_fits s n len room }
-{
-    match room {
-        None => true,
-        Some(
-            Room {
-                region,
-                at,
-                blank: _,
-            },
-        ) => place_fits(s, n, len, region, at),
-    }
-}
-
 // Whether this is what is lent for an aim.
-pub fn lent_for(aim: Aim, lent: Lent) -> bool
+fn lent_for(aim: Aim, lent: Lent) -> bool
     ensures { result ≡ lent_for aim lent }
 {
     match aim {
         Aim::Get => matches!(lent, Lent::Buffer(_)),
         Aim::Append => matches!(lent, Lent::Nothing | Lent::Value(_)),
         Aim::Remove(_) | Aim::Initialise => matches!(lent, Lent::Nothing),
-    }
-}
-
-fn seek_fits(s: usize, n: usize, lent: Lent, aim: Aim, i: usize, seen: Seen) -> bool
-    requires { value_lent lent ≤ 4079 }
-    ensures { result ≡ then_fits s n lent (Seek aim i seen) }
-{
-    lent_for(aim, lent) && i < n && room_fits(s, n, lent.value(), seen.room)
-}
-
-fn then_fits(s: usize, n: usize, lent: Lent, next: Then) -> bool
-    requires { value_lent lent ≤ 4079 }
-    ensures { result ≡ then_fits s n lent next }
-{
-    match next {
-        Then::Ends(_) => true,
-        Then::Seek { aim, i, seen } => seek_fits(s, n, lent, aim, i, seen),
-        Then::Sweep { region, erased } => region < n && erased <= region,
-        Then::Gives {
-            region,
-            rec,
-            anew: _,
-        } => region < n && record_fits(s, rec),
     }
 }
 
@@ -133,13 +56,101 @@ fn value_short(lent: Lent) -> bool
     lent.value() <= Record::LARGEST - Record::LEAST
 }
 
+// R8.10: what a plan has to fit: n regions of s bytes, and what is lent, which is no longer than a value may be.
+#[derive(Clone, Copy)]
+struct Space {
+    s: usize,
+    n: usize,
+    lent: Lent,
+    ghost short: { value_lent lent ≤ 4079 },
+}
+
+impl Space {
+    // A place for the record of the value that is lent.
+    fn has_place(self, r: usize, at: usize) -> bool
+        ensures { result ≡ place_fits self.s self.n (value_lent self.lent) r at }
+    {
+        r < self.n && lies_in(at, self.lent.value() + Record::LEAST, self.s)
+    }
+
+    // A region and a record in it.
+    fn has_record(self, r: usize, rec: Record) -> bool
+        ensures { result ≡ (ltb r self.n && record_fits self.s rec) }
+    {
+        r < self.n && record_fits(self.s, rec)
+    }
+
+    fn has_edit(self, edit: Edit) -> bool
+        ensures { result ≡ edit_fits self.s self.n (value_lent self.lent) edit }
+    {
+        match edit {
+            Edit::Lay { region, at } => self.has_place(region, at),
+            Edit::Kill {
+                how: _,
+                region,
+                rec,
+            } => self.has_record(region, rec),
+            Edit::Erase { region } => region < self.n,
+        }
+    }
+
+    fn has_edits(self, edits: Edits) -> bool
+        ensures { result ≡ edits_fit self.s self.n (value_lent self.lent) edits }
+    {
+        match edits {
+            Edits::Nil => true,
+            Edits::One(e) => self.has_edit(e),
+            Edits::Two(e, f) => self.has_edit(e) && self.has_edit(f),
+            Edits::Three(e, f, g) => self.has_edit(e) && self.has_edit(f) && self.has_edit(g),
+            Edits::Erases { from: _, to } => to <= self.n,
+        }
+    }
+
+    fn has_room(self, room: Option<Room>) -> bool
+        ensures { result ≡ room_fits self.s self.n (value_lent self.lent) room }
+    {
+        match room {
+            None => true,
+            Some(
+                Room {
+                    region,
+                    at,
+                    blank: _,
+                },
+            ) => self.has_place(region, at),
+        }
+    }
+
+    fn has_seek(self, aim: Aim, i: usize, seen: Seen) -> bool
+        ensures { result ≡ then_fits self.s self.n self.lent (Seek aim i seen) }
+    {
+        lent_for(aim, self.lent) && i < self.n && self.has_room(seen.room)
+    }
+
+    fn has_next(self, next: Then) -> bool
+        ensures { result ≡ then_fits self.s self.n self.lent next }
+    {
+        match next {
+            Then::Ends(_) => true,
+            Then::Seek { aim, i, seen } => self.has_seek(aim, i, seen),
+            Then::Sweep { region, erased } => region < self.n && erased <= region,
+            Then::Gives {
+                region,
+                rec,
+                anew: _,
+            } => self.has_record(region, rec),
+        }
+    }
+}
+
 pub fn plan_fits(s: usize, n: usize, lent: Lent, plan: Plan) -> bool
     ensures { result ≡ plan_fits s n lent plan }
 {
+    if !value_short(lent) {
+        return false;
+    }
+    let space = Space { s, n, lent };
     let edits = plan.edits;
     let next = plan.next;
-    value_short(lent)
-        && edits_fit(s, n, lent.value(), edits)
-        && then_fits(s, n, lent, next)
-        && then_rests(crate::first_of(edits), next)
+    space.has_edits(edits) && space.has_next(next) && then_rests(crate::first_of(edits), next)
 }
