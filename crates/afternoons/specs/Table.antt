@@ -6,8 +6,7 @@ use Rattle.format.specs.declared.Removal.{Removal}
 use Rattle.format.specs.Layout.{record_bytes}
 use Rattle.lookup.specs.declared.Hit.{Hit}
 use Rattle.lookup.specs.Turns.{hit_of}
-use Rattle.plans.specs.declared.Answer.{Answer}
-use Rattle.plans.specs.Answers.{refusal, values}
+use Rattle.plans.specs.Answers.{refusal, values, Answer}
 use Rattle.store.specs.Read.{Got, get_of}
 use Rattle.store.specs.Write.{Done, append_of, remove_of}
 use Rattle.store.specs.Collect.{collect_of}

@@ -1,5 +1,5 @@
 // Answers and values as the day's lines have them.
-use plans::Answer;
+use plans::{Answer, Success};
 use std::{fmt, str};
 
 // An answer's name and value.
@@ -9,10 +9,10 @@ pub struct Said(pub Answer);
 impl fmt::Display for Said {
     fn fmt<W: fmt::Write>(&self, f: &mut fmt::Formatter<W>) -> fmt::Result {
         match self.0 {
-            Answer::Complete(len) => write!(f, "Complete{len:>4}"),
-            Answer::Written => f.write_str("Written"),
-            Answer::Freed(bytes) => write!(f, "Freed {bytes} bytes"),
-            Answer::Refused(refusal) => write!(f, "refused: {refusal}"),
+            Ok(Success::Complete(len)) => write!(f, "Complete{len:>4}"),
+            Ok(Success::Written) => f.write_str("Written"),
+            Ok(Success::Freed(bytes)) => write!(f, "Freed {bytes} bytes"),
+            Err(refusal) => write!(f, "refused: {refusal}"),
         }
     }
 }
@@ -28,8 +28,8 @@ impl<'a> Got<'a> {
     // The value, where there is one.
     pub fn value(&self) -> Option<&'a [u8]> {
         match self.answer {
-            Answer::Complete(len) => self.buffer.get(..len),
-            Answer::Written | Answer::Freed(_) | Answer::Refused(_) => None,
+            Ok(Success::Complete(len)) => self.buffer.get(..len),
+            Ok(Success::Written | Success::Freed(_)) | Err(_) => None,
         }
     }
 }

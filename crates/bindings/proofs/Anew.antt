@@ -5,11 +5,11 @@ use native.Mathlib.Omega.{arith}
 use mathlib.Core.Path.{◌≡◌, refl, sym, ◌∙◌, ap}
 use mathlib.Core.Bool.{Bool, true, false}
 use mathlib.Core.List.{List, []}
+use Rattle.std.specs.Prelude.{Ok}
 use Rattle.chip.specs.Chip.{erased}
 use Rattle.chip.specs.Geometry.{Shape}
-use Rattle.plans.specs.declared.Answer.{Answer}
-use Rattle.plans.specs.declared.Answer.TheVariants.{Written}
-use Rattle.plans.specs.Answers.{refusal, starts_anew}
+use Rattle.plans.specs.declared.Success.TheVariants.{Written}
+use Rattle.plans.specs.Answers.{refusal, starts_anew, Answer}
 use Rattle.store.specs.Write.{Done, append_of, initialise_of}
 use Rattle.store.specs.Read.{get_of}
 use Rattle.store.specs.Call.{get}
@@ -18,13 +18,13 @@ use Rattle.pinned.proofs.Answers.{succeeds}
 use Rattle.bindings.proofs.Outcomes.{Appending, appending}
 
 -- get never answers Written
-get_not_written : (image : List ℕ) (s n key : ℕ) (buffer : List ℕ) → (get_of image s n key buffer).answer ≡ Written → ⊥
+get_not_written : (image : List ℕ) (s n key : ℕ) (buffer : List ℕ) → (get_of image s n key buffer).answer ≡ Ok Written → ⊥
 get_not_written image s n key buffer h = go (succeeds image s n (get key buffer) (ap refusal h)) h
   where
-    go : {a : Answer} → Succeeds (get key buffer) a → a ≡ Written → ⊥
+    go : {a : Answer} → Succeeds (get key buffer) a → a ≡ Ok Written → ⊥
     go Succeeds.get_completes h = let z : ◌≡◌ {A = ℕ} 0 1 = cc in omega arith
 
-pub initialise_appends : (image : List ℕ) (s n key : ℕ) → (initialise_of image s n key).answer ≡ Written → initialise_of image s n key ≡ append_of (erased (n * s)) s n key []
+pub initialise_appends : (image : List ℕ) (s n key : ℕ) → (initialise_of image s n key).answer ≡ Ok Written → initialise_of image s n key ≡ append_of (erased (n * s)) s n key []
 unfolding initialise_of
 initialise_appends image s n key h = go (starts_anew (get_of image s n key []).answer) refl
   where
@@ -35,10 +35,10 @@ initialise_appends image s n key h = go (starts_anew (get_of image s n key []).a
         absurd (get_not_written image s n key [] (sym (ap (λ (d : Done). d.answer) same) ∙ h))
 
 -- an append that writes was given a chip of the right shape
-pub written_shape : (image : List ℕ) (s n key : ℕ) (value : List ℕ) → (append_of image s n key value).answer ≡ Written → Shape s n
+pub written_shape : (image : List ℕ) (s n key : ℕ) (value : List ℕ) → (append_of image s n key value).answer ≡ Ok Written → Shape s n
 written_shape image s n key value h = go (append_of image s n key value) (appending image s n key value) h
   where
-    go : (d : Done) → Appending image s n key value d → d.answer ≡ Written → Shape s n
+    go : (d : Done) → Appending image s n key value d → d.answer ≡ Ok Written → Shape s n
     go d (Appending.early z e) h = absurd (let q : ◌≡◌ {A = ℕ} 0 1 = cc in omega arith)
     go d (Appending.there r x a e) h = a.fits.shape
     go d (Appending.bad f p a e) h = a.fits.shape

@@ -7,7 +7,7 @@ use mathlib.Core.Bool.{true}
 use mathlib.Core.List.{List, ◌++◌}
 use lib.ListN.{length, take, drop, length-take, length-drop}
 use borrow.Author.Tests.{lt-ltb, le-ltb}
-use Rattle.std.specs.Prelude.{Ok, Some, None}
+use Rattle.std.specs.Prelude.{Ok, Some, None, Err}
 use Rattle.chip.specs.Geometry.{Fits, region_of}
 use Rattle.chip.proofs.Image.{fits_geometry}
 use Rattle.probe.specs.Probe.{allowed_key, probes}
@@ -19,7 +19,7 @@ use Rattle.lookup.specs.declared.Looked.{Looked}
 use Rattle.refusals.specs.Refusals.{first_refusal}
 use Rattle.lookup.specs.Turns.{lookup_in, hit_by, hit_of, hits}
 use Rattle.lookup.proofs.Ends.{held}
-use Rattle.plans.specs.declared.Answer.TheVariants.{Complete, Refused}
+use Rattle.plans.specs.declared.Success.TheVariants.{Complete}
 use Rattle.plans.specs.Writes.{applied}
 use Rattle.store.specs.Read.{got_by, get_of}
 use Rattle.store.specs.Write.{refused, append_of}
@@ -51,14 +51,14 @@ module _ {s n : ℕ} {image : List ℕ} (w : WellFormed s n image) (key : ℕ) w
       (sym long ∙ ap length b.value_is, w.sums b.region b.rec b.held)
 
   pub get_bound : {value : List ℕ} (b : Bound s n image key value) (buffer : List ℕ) → length value ≤ length buffer
-      → get_of image s n key buffer ≡ record { answer = Complete (length value); buffer = value ++ drop (length value) buffer }
+      → get_of image s n key buffer ≡ record { answer = Ok (Complete (length value)); buffer = value ++ drop (length value) buffer }
   unfolding get_of
   get_bound {value} b buffer h =
       let (n, c) = long_of b in
       rw (hit_bound b, b.value_is, n, le-ltb (length buffer) (length value) h, c)
 
   pub get_short : {value : List ℕ} (b : Bound s n image key value) (buffer : List ℕ) → length buffer < length value
-      → get_of image s n key buffer ≡ record { answer = Refused (Refusal.BufferTooSmall (length value)); buffer = take (length buffer) value }
+      → get_of image s n key buffer ≡ record { answer = Err (Refusal.BufferTooSmall (length value)); buffer = take (length buffer) value }
   unfolding get_of
   get_short {value} b buffer h =
       let (n, c) = long_of b in
@@ -66,11 +66,11 @@ module _ {s n : ℕ} {image : List ℕ} (w : WellFormed s n image) (key : ℕ) w
 
   -- an unbound key is missed, if it is a key at all
   pub get_unbound : (buffer : List ℕ) → allowed_key key ≡ true → ((value : List ℕ) → Bound s n image key value → ⊥)
-      → get_of image s n key buffer ≡ record { answer = Refused Refusal.KeyNotFound; buffer = buffer }
+      → get_of image s n key buffer ≡ record { answer = Err Refusal.KeyNotFound; buffer = buffer }
   unfolding get_of hit_of
   get_unbound buffer k none = rw (fine_first image s n key 0 w.fits k (omega arith)) (go (lookup_in key None s image (probes key n)) refl)
     where
-      go : (l : Looked) → lookup_in key None s image (probes key n) ≡ l → got_by s image buffer (hit_by l) ≡ record { answer = Refused Refusal.KeyNotFound; buffer = buffer }
+      go : (l : Looked) → lookup_in key None s image (probes key n) ≡ l → got_by s image buffer (hit_by l) ≡ record { answer = Err Refusal.KeyNotFound; buffer = buffer }
       go (Looked.Live r x) e =
           let (live-there, key_is) = found_live w key None r x e in
           absurd (none (value_in (region_of s image r) x) (record { region = r; rec = x; held = live-there; key_is = key_is; value_is = refl }))

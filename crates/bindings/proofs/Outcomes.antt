@@ -23,7 +23,7 @@ use Rattle.refusals.specs.Refusals.{refusal_of, first_refusal}
 use Rattle.lookup.specs.Words.{first_room}
 use Rattle.lookup.specs.Turns.{lookup_in, hit_by, hit_after, hit_of, hits}
 use Rattle.lookup.proofs.Scan.{fine, gathered_first, room_from, Roomy, room_cases}
-use Rattle.plans.specs.declared.Answer.TheVariants.{Written}
+use Rattle.plans.specs.declared.Success.TheVariants.{Written}
 use Rattle.plans.specs.Writes.{applied}
 use Rattle.planning.specs.Planning.{place_plan}
 use Rattle.store.specs.Write.{Done, refused, carried, append_by, append_after, append_of, remove_by, remove_of}
@@ -64,7 +64,7 @@ removed how s image r x = written image (r * s + kill_place how x) (kill_bytes h
 pub data Removing (how : Removal) (image : List ℕ) (s n key : ℕ) : Done → Type 0 where
   not_hit : (w : Refusal) → Hitting image s n key (Err w) → Removing how image s n key (refused w image)
   removes : (r : ℕ) (x : Record) → lookup_in key None s image (probes key n) ≡ Looked.Live r x
-      → Removing how image s n key (record { answer = Written; image = removed how s image r x })
+      → Removing how image s n key (record { answer = Ok Written; image = removed how s image r x })
 
 removing_by : (how : Removal) (image : List ℕ) (s n key : ℕ) (t : Result Hit Refusal) → Hitting image s n key t → Removing how image s n key (remove_by how s image key t)
 unfolding applied
@@ -88,7 +88,7 @@ pub data Appending (image : List ℕ) (s n key : ℕ) (value : List ℕ) : Done 
       → r < n → Roomy image s (record_length (length value)) r o false → Appending image s n key value (refused Refusal.CorruptData image)
   wrote : (seen : Seen) (r o : ℕ) → Allowed image s n key (length value) → lookup_in key (Some (record_length (length value))) s image (probes key n) ≡ Looked.Through seen
       → r < n → Roomy image s (record_length (length value)) r o true
-      → Appending image s n key value (record { answer = Written; image = written image (r * s + o) (record_bytes key value) })
+      → Appending image s n key value (record { answer = Ok Written; image = written image (r * s + o) (record_bytes key value) })
 
 module _ (image : List ℕ) (s n key : ℕ) (value : List ℕ) where
   abbrev looked : Looked

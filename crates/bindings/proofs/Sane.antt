@@ -20,8 +20,8 @@ use Rattle.refusals.specs.declared.Refusal.{Refusal}
 use Rattle.lookup.specs.declared.Hit.{Hit}
 use Rattle.refusals.specs.Refusals.{number, first_refusal}
 use Rattle.lookup.specs.Turns.{hit_of}
-use Rattle.plans.specs.declared.Answer.{Answer}
-use Rattle.plans.specs.Answers.{refusal, starts_anew}
+use Rattle.plans.specs.declared.Success.{Success}
+use Rattle.plans.specs.Answers.{refusal, starts_anew, Answer}
 use Rattle.store.specs.Write.{Done, append_of, remove_of, initialise_by, initialise_of}
 use Rattle.values.specs.Values.{read_answer}
 use Rattle.store.specs.Read.{got_by, get_of}
@@ -56,18 +56,18 @@ first_number image s n key len w = go (geometry image s n) (allowed_key key) (lt
     go true true true h = is Refusal.ObjectTooLarge h (omega arith)
     go true true false h = absurd (let z : ◌≡◌ {A = ℕ} 0 1 = cc in omega arith)
 
-sane_early : (w : Refusal) → number w ≤ 3 → Sane (Answer.Refused w)
+sane_early : (w : Refusal) → number w ≤ 3 → Sane (Err w)
 sane_early w h = record { version = λ q. omega arith; corrupt = λ q. omega arith; sum = λ q. omega arith }
 
 module _ {s n : ℕ} {image : List ℕ} (w : WellFormed s n image) where
   read_sane : (region : List ℕ) (x : Record) (capacity : ℕ) → check_sum_fits (bytes_in region x) ≡ true → Sane (read_answer region x capacity)
   read_sane region x capacity c = rw c (go (ltb capacity (value_length x)))
     where
-      go : (b : Bool) → Sane (cond b (Answer.Refused (Refusal.BufferTooSmall (value_length x))) (Answer.Complete (value_length x)))
+      go : (b : Bool) → Sane (cond b (Err (Refusal.BufferTooSmall (value_length x))) (Ok (Success.Complete (value_length x))))
       go true = sane_at _ 9 refl (λ q. omega arith) (λ q. omega arith) (λ q. omega arith)
       go false = sane_at _ 0 refl (λ q. omega arith) (λ q. omega arith) (λ q. omega arith)
 
-  miss_sane : (key : ℕ) (z : Refusal) → Hitting image s n key (Err z) → Sane (Answer.Refused z)
+  miss_sane : (key : ℕ) (z : Refusal) → Hitting image s n key (Err z) → Sane (Err z)
   miss_sane key _ (Hitting.early z e) = sane_early z (first_number image s n key 0 z e)
   miss_sane key z (Hitting.bad f p a e) = absurd (never_bad w key None f p e)
   miss_sane key z (Hitting.missing seen a e) = sane_at _ 4 refl (λ q. omega arith) (λ q. omega arith) (λ q. omega arith)

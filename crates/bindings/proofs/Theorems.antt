@@ -9,7 +9,7 @@ use mathlib.Core.Bool.{true}
 use mathlib.Core.Logic.{◌⊎◌, inl, ⊎_elim, ◌↔◌}
 use mathlib.Core.List.{List, [], ◌++◌, Memᴰ}
 use lib.ListN.{length, get_or, take, drop}
-use Rattle.std.specs.Prelude.{None}
+use Rattle.std.specs.Prelude.{None, Ok, Err}
 use Rattle.chip.specs.Chip.{Bytes, written, erased}
 use Rattle.chip.specs.Geometry.{Shape, region_of, erase_region}
 use Rattle.chip.specs.Every.{Every}
@@ -25,7 +25,7 @@ use Rattle.region.specs.Walk.{ending}
 use Rattle.refusals.specs.declared.Refusal.{Refusal}
 use Rattle.lookup.specs.Gather.{unseen}
 use Rattle.lookup.specs.Turns.{regions_read}
-use Rattle.plans.specs.declared.Answer.TheVariants.{Complete, Written, Freed, Refused}
+use Rattle.plans.specs.declared.Success.TheVariants.{Complete, Written, Freed}
 use Rattle.plans.specs.Answers.{refusal}
 use Rattle.store.specs.Write.{Done, refused, append_of, remove_of, initialise_of}
 use Rattle.store.specs.Read.{get_of}
@@ -61,11 +61,11 @@ stays_well_formed w c t = call_keeps w c t
 
 -- R11.2: an append that answers Written adds its key with its value to the bindings, and alters no other.
 pub append_adds : {s n : ℕ} {image : List ℕ} → WellFormed s n image → (key : ℕ) (value : List ℕ) → key < 2 ^ 64 → Bytes value
-    → (append_of image s n key value).answer ≡ Written
+    → (append_of image s n key value).answer ≡ Ok Written
     → (key' : ℕ) (value' : List ℕ) → Bound s n (append_of image s n key value).image key' value' ↔ (((key' ≡ key) × (value' ≡ value)) ⊎ Bound s n image key' value')
 append_adds {s} {n} {image} w key value k v h = go (append_of image s n key value) (appending image s n key value) h
   where
-    go : (d : Done) → Appending image s n key value d → d.answer ≡ Written
+    go : (d : Done) → Appending image s n key value d → d.answer ≡ Ok Written
         → (key' : ℕ) (value' : List ℕ) → Bound s n d.image key' value' ↔ (((key' ≡ key) × (value' ≡ value)) ⊎ Bound s n image key' value')
     go d (Appending.early z e) h = absurd (let q : ◌≡◌ {A = ℕ} 0 1 = cc in omega arith)
     go d (Appending.there r x a e) h = absurd (let q : ◌≡◌ {A = ℕ} 0 1 = cc in omega arith)
@@ -75,11 +75,11 @@ append_adds {s} {n} {image} w key value k v h = go (append_of image s n key valu
     go d (Appending.wrote seen r o a e i y) h = Kept.append_binds w key value k v a seen e r o i y
 
 -- R11.3: a removal that answers Written takes its key's binding away, and alters no other.
-pub removal_takes : {s n : ℕ} {image : List ℕ} → WellFormed s n image → (how : Removal) (key : ℕ) → (remove_of how image s n key).answer ≡ Written
+pub removal_takes : {s n : ℕ} {image : List ℕ} → WellFormed s n image → (how : Removal) (key : ℕ) → (remove_of how image s n key).answer ≡ Ok Written
     → (key' : ℕ) (value' : List ℕ) → Bound s n (remove_of how image s n key).image key' value' ↔ (Bound s n image key' value' × (key' ≡ key → ⊥))
 removal_takes {s} {n} {image} w how key h = go (remove_of how image s n key) (removing how image s n key) h
   where
-    go : (d : Done) → Removing how image s n key d → d.answer ≡ Written
+    go : (d : Done) → Removing how image s n key d → d.answer ≡ Ok Written
         → (key' : ℕ) (value' : List ℕ) → Bound s n d.image key' value' ↔ (Bound s n image key' value' × (key' ≡ key → ⊥))
     go d (Removing.not_hit z t) h = absurd (let q : ◌≡◌ {A = ℕ} 0 1 = cc in omega arith)
     go d (Removing.removes r x e) h = λ key' value'.
@@ -88,19 +88,19 @@ removal_takes {s} {n} {image} w how key h = go (remove_of how image s n key) (re
 
 -- R11.4: collect alters no binding, and it is not refused.
 pub collection_alters_none : {s n : ℕ} {image : List ℕ} → WellFormed s n image
-    → ((f : ℕ) × ((collect_of image s n).answer ≡ Freed f)) × ((key : ℕ) (value : List ℕ) → Bound s n (collect_of image s n).image key value ↔ Bound s n image key value)
+    → ((f : ℕ) × ((collect_of image s n).answer ≡ Ok (Freed f))) × ((key : ℕ) (value : List ℕ) → Bound s n (collect_of image s n).image key value ↔ Bound s n image key value)
 collection_alters_none w = let (c, f) = collect_done w in (f, c.same)
 
 -- R5.7: and its count is S times the number of regions erased: each region that held records, none of them live.
 pub collection_counts : {s n : ℕ} {image : List ℕ} → WellFormed s n image
-    → ((collect_of image s n).answer ≡ Freed (s * length (erased_by image s n))) × ((q : ℕ) → Memᴰ q (erased_by image s n) ↔ ((q < n) × Dead (region_of s image q)))
+    → ((collect_of image s n).answer ≡ Ok (Freed (s * length (erased_by image s n)))) × ((q : ℕ) → Memᴰ q (erased_by image s n) ↔ ((q < n) × Dead (region_of s image q)))
 collection_counts {s} {n} {image} w =
     let ((bytes, e), _) = collection_alters_none w in
     let (count, which, _) = freed_is_counted image s n bytes e in
-    (e ∙ ap Freed count, which)
+    (e ∙ ap (λ (bytes : ℕ). Ok (Freed bytes)) count, which)
 
 -- An initialise that answers Written is an append to a blank chip.
-initialise_made : (image : List ℕ) (s n key : ℕ) → key < 2 ^ 64 → (initialise_of image s n key).answer ≡ Written
+initialise_made : (image : List ℕ) (s n key : ℕ) → key < 2 ^ 64 → (initialise_of image s n key).answer ≡ Ok Written
     → WellFormed s n (initialise_of image s n key).image
     × ((key' : ℕ) (value' : List ℕ) → Bound s n (initialise_of image s n key).image key' value' ↔ ((key' ≡ key) × (value' ≡ [])))
 initialise_made image s n key k h = subst Made (sym (ap (λ (d : Done). d.image) same)) (made (sym (ap (λ (d : Done). d.answer) same) ∙ h))
@@ -111,7 +111,7 @@ initialise_made image s n key k h = subst Made (sym (ap (λ (d : Done). d.image)
     Made : List ℕ → Type 0
     Made image' = WellFormed s n image' × ((key' : ℕ) (value' : List ℕ) → Bound s n image' key' value' ↔ ((key' ≡ key) × (value' ≡ [])))
 
-    made : (append_of (erased (n * s)) s n key []).answer ≡ Written → Made (append_of (erased (n * s)) s n key []).image
+    made : (append_of (erased (n * s)) s n key []).answer ≡ Ok Written → Made (append_of (erased (n * s)) s n key []).image
     made e =
         let w = Images.blank_well_formed (written_shape (erased (n * s)) s n key [] e) in (
           call_keeps w (Call.append key []) (Typed.typed_append k no_bytes),
@@ -123,7 +123,7 @@ initialise_made image s n key k h = subst Made (sym (ap (λ (d : Done). d.image)
 
 -- R11.5: initialise that answers Written leaves a well-formed image, and the main key with an empty value is its only binding: whatever the
 -- image was before, well-formed or not.
-pub initialise_makes_well_formed : (image : List ℕ) (s n key : ℕ) → key < 2 ^ 64 → (initialise_of image s n key).answer ≡ Written
+pub initialise_makes_well_formed : (image : List ℕ) (s n key : ℕ) → key < 2 ^ 64 → (initialise_of image s n key).answer ≡ Ok Written
     → WellFormed s n (initialise_of image s n key).image
     × ((key' : ℕ) (value' : List ℕ) → Bound s n (initialise_of image s n key).image key' value' ↔ ((key' ≡ key) × (value' ≡ [])))
 initialise_makes_well_formed image s n key k h = initialise_made image s n key k h
@@ -139,15 +139,15 @@ refusal_alters_none {s} {n} {image} w (Call.initialise key) h = refused_leaves (
 -- R11.7: get of a bound key into a buffer long enough is Complete with its value. Into a shorter one: BufferTooSmall and its first bytes.
 -- Of an unbound key: KeyNotFound, and the buffer stays.
 pub get_finds : {s n : ℕ} {image : List ℕ} → WellFormed s n image → (key : ℕ) (value buffer : List ℕ) → Bound s n image key value → length value ≤ length buffer
-    → get_of image s n key buffer ≡ record { answer = Complete (length value); buffer = value ++ drop (length value) buffer }
+    → get_of image s n key buffer ≡ record { answer = Ok (Complete (length value)); buffer = value ++ drop (length value) buffer }
 get_finds w key value buffer b h = Answers.get_bound w key b buffer h
 
 pub get_fills : {s n : ℕ} {image : List ℕ} → WellFormed s n image → (key : ℕ) (value buffer : List ℕ) → Bound s n image key value → length buffer < length value
-    → get_of image s n key buffer ≡ record { answer = Refused (Refusal.BufferTooSmall (length value)); buffer = take (length buffer) value }
+    → get_of image s n key buffer ≡ record { answer = Err (Refusal.BufferTooSmall (length value)); buffer = take (length buffer) value }
 get_fills w key value buffer b h = Answers.get_short w key b buffer h
 
 pub get_misses : {s n : ℕ} {image : List ℕ} → WellFormed s n image → (key : ℕ) (buffer : List ℕ) → allowed_key key ≡ true → ((value : List ℕ) → Bound s n image key value → ⊥)
-    → get_of image s n key buffer ≡ record { answer = Refused Refusal.KeyNotFound; buffer = buffer }
+    → get_of image s n key buffer ≡ record { answer = Err Refusal.KeyNotFound; buffer = buffer }
 get_misses w key buffer k none = Answers.get_unbound w key buffer k none
 
 -- R11.7: append of a bound key is KeyAlreadyExists, and the image stays.
@@ -163,7 +163,7 @@ pub bound_is_found : {s n : ℕ} {image : List ℕ} → WellFormed s n image →
     → let later = image_after_all s n calls image in
     WellFormed s n later
     × Bound s n later key value
-    × (get_of later s n key buffer ≡ record { answer = Complete (length value); buffer = value ++ drop (length value) buffer })
+    × (get_of later s n key buffer ≡ record { answer = Ok (Complete (length value)); buffer = value ++ drop (length value) buffer })
     × (length (regions_read key None s later (probes key n)) ≤ n)
 bound_is_found {s} {n} {image} w key value b calls p buffer l =
     let (last, held) = all_hold s n key value calls image w b p in (
@@ -175,11 +175,11 @@ bound_is_found {s} {n} {image} w key value b calls p buffer l =
 
 -- R11.8: a record that append has written is bound, so it is found after any list of calls.
 pub stored_is_found : {s n : ℕ} {image : List ℕ} → WellFormed s n image → (key : ℕ) (value : List ℕ) → key < 2 ^ 64 → Bytes value
-    → (append_of image s n key value).answer ≡ Written
+    → (append_of image s n key value).answer ≡ Ok Written
     → (calls : List Call) → SparesAll s n key (append_of image s n key value).image calls
     → (buffer : List ℕ) → length value ≤ length buffer
     → let later = image_after_all s n calls (append_of image s n key value).image in
-    (get_of later s n key buffer ≡ record { answer = Complete (length value); buffer = value ++ drop (length value) buffer })
+    (get_of later s n key buffer ≡ record { answer = Ok (Complete (length value)); buffer = value ++ drop (length value) buffer })
     × (length (regions_read key None s later (probes key n)) ≤ n)
 stored_is_found {s} {n} {image} w key value k v h calls p buffer l =
     let w' = call_keeps w (Call.append key value) (Typed.typed_append k v) in
@@ -188,13 +188,13 @@ stored_is_found {s} {n} {image} w key value k v h calls p buffer l =
     (found, reads)
 
 -- R11.8: so is the main key's own record, of the empty value, after an initialise that answers Written, on any image.
-pub initialised_is_found : (image : List ℕ) (s n key : ℕ) → key < 2 ^ 64 → (initialise_of image s n key).answer ≡ Written
+pub initialised_is_found : (image : List ℕ) (s n key : ℕ) → key < 2 ^ 64 → (initialise_of image s n key).answer ≡ Ok Written
     → (calls : List Call) → SparesAll s n key (initialise_of image s n key).image calls
     → (buffer : List ℕ)
     → let later = image_after_all s n calls (initialise_of image s n key).image in
     WellFormed s n later
     × Bound s n later key []
-    × (get_of later s n key buffer ≡ record { answer = Complete 0; buffer = buffer })
+    × (get_of later s n key buffer ≡ record { answer = Ok (Complete 0); buffer = buffer })
     × (length (regions_read key None s later (probes key n)) ≤ n)
 initialised_is_found image s n key k h calls p buffer =
     let (w, bound) = initialise_made image s n key k h in
@@ -219,16 +219,16 @@ collect_broken w k = Broken.collect_broken w k
 -- and get finds it there.
 pub spilled_is_found : {s n : ℕ} {image : List ℕ} → WellFormed s n image → (key : ℕ) (value : List ℕ) → key < 2 ^ 64 → Bytes value
     → (end : ℕ) → EndsAt (region_of s image (home key n)) end → s < end + record_length (length value)
-    → (append_of image s n key value).answer ≡ Written
+    → (append_of image s n key value).answer ≡ Ok Written
     → ((b : Bound s n (append_of image s n key value).image key value) × (b.region ≡ home key n → ⊥))
     × ((buffer : List ℕ) → length value ≤ length buffer
-    → get_of (append_of image s n key value).image s n key buffer ≡ record { answer = Complete (length value); buffer = value ++ drop (length value) buffer })
+    → get_of (append_of image s n key value).image s n key buffer ≡ record { answer = Ok (Complete (length value)); buffer = value ++ drop (length value) buffer })
 spilled_is_found {s} {n} {image} w key value k v end full-end full h = go (append_of image s n key value) (appending image s n key value) h (call_keeps w (Call.append key value) (Typed.typed_append k v))
   where
-    go : (d : Done) → Appending image s n key value d → d.answer ≡ Written → WellFormed s n d.image
+    go : (d : Done) → Appending image s n key value d → d.answer ≡ Ok Written → WellFormed s n d.image
         → ((b : Bound s n d.image key value) × (b.region ≡ home key n → ⊥))
         × ((buffer : List ℕ) → length value ≤ length buffer
-        → get_of d.image s n key buffer ≡ record { answer = Complete (length value); buffer = value ++ drop (length value) buffer })
+        → get_of d.image s n key buffer ≡ record { answer = Ok (Complete (length value)); buffer = value ++ drop (length value) buffer })
     go d (Appending.early z e) h w' = absurd (let q : ◌≡◌ {A = ℕ} 0 1 = cc in omega arith)
     go d (Appending.there r x a e) h w' = absurd (let q : ◌≡◌ {A = ℕ} 0 1 = cc in omega arith)
     go d (Appending.bad f p a e) h w' = absurd (let q : ◌≡◌ {A = ℕ} 0 1 = cc in omega arith)

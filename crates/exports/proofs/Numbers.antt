@@ -7,7 +7,6 @@ use mathlib.Core.Path.{◌≡◌, refl, sym, ◌∙◌, ap, subst}
 use mathlib.Core.Bool.{Bool, true, false}
 use mathlib.Core.List.{List}
 use mathlib.Core.Logic.{◌⊎◌, inl, inr, ⊎_elim, ◌↔◌}
-use Rattle.plans.specs.declared.Answer.{Answer}
 use Rattle.running.specs.declared.Op.{Op}
 use Rattle.running.specs.declared.Reply.{Reply}
 use Rattle.running.specs.declared.Request.{Request}
@@ -25,6 +24,7 @@ use Rattle.exports.specs.Misfits.{Misfits}
 use Rattle.exports.specs.Inside.{InsideNumbers, ReadsNumbers}
 use Rattle.exports.proofs.Read.{replied, is_failed, looks_get}
 use Rattle.exports.proofs.Called.{Called, nothing, runs, called, to_numbers, of_numbers, refused, inside_numbers}
+use Rattle.plans.specs.Answers.{Answer}
 
 module _ (o : COperation) (y : ℕ) (region value buffer : List ℕ) where
   pub bad_call_lem : ((step_numbers o y region value buffer).request.answer.refusal ≡ 11) ↔ Misfits o y region value buffer

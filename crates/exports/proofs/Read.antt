@@ -7,18 +7,18 @@ use mathlib.Core.Bool.{Bool, true, false, cond, ◌&&◌, true≢false}
 use mathlib.Core.Logic.{◌⊎◌, inl, inr}
 use lib.Dec.{eqb}
 use borrow.Author.Tests.{eqb-true, eqb-false}
-use Rattle.std.specs.Prelude.{Option, Some, None}
+use Rattle.std.specs.Prelude.{Option, Some, None, Ok}
 use Rattle.chip.proofs.Image.{both}
 use Rattle.format.specs.declared.Removal.{Removal}
 use Rattle.lookup.specs.declared.Seen.{Seen}
 use Rattle.lookup.specs.Gather.{unseen, with_room}
-use Rattle.plans.specs.declared.Answer.{Answer}
-use Rattle.plans.specs.declared.Answer.TheVariants.{Complete, Written, Freed}
+use Rattle.plans.specs.declared.Success.TheVariants.{Complete, Written, Freed}
 use Rattle.plans.specs.declared.Aim.{Aim}
 use Rattle.plans.specs.declared.Lent.{Lent}
 use Rattle.plans.specs.declared.Edit.{Edit}
 use Rattle.plans.specs.declared.Edits.{Edits}
 use Rattle.plans.specs.declared.Then.{Then}
+use Rattle.plans.specs.Answers.{Answer}
 use Rattle.plans.specs.Writes.{value_lent, first}
 use Rattle.running.specs.declared.Op.{Op}
 use Rattle.running.specs.declared.Reply.{Reply}
@@ -181,7 +181,7 @@ follows_in o = go (eqb o.next 1) (eqb o.next 2) (eqb o.next 3) (eqb o.next 4) re
     go : (p q r t : Bool) → eqb o.next 1 ≡ p
         → Follows o
         (cond p (Then.Seek (aim_in o.aim) o.a (with_room (gathered_in o.tag o.b o.c) unseen))
-        (cond q (Then.Sweep o.a o.b) (cond r (Then.Ends (Complete o.a)) (cond t (Then.Ends Written) (Then.Ends (Freed o.a))))))
+        (cond q (Then.Sweep o.a o.b) (cond r (Then.Ends (Ok (Complete o.a))) (cond t (Then.Ends (Ok Written)) (Then.Ends (Ok (Freed o.a)))))))
     go true q r t e = seeks (eqb-true o.next 1 e)
     go false true r t e = sweeps
     go false false true t e = ends

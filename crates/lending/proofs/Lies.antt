@@ -14,7 +14,7 @@ use Rattle.refusals.specs.declared.Refusal.{Refusal}
 use Rattle.lookup.specs.declared.Hit.{Hit}
 use Rattle.lookup.specs.Turns.{hit_of, hits}
 use Rattle.lookup.proofs.Ends.{Held, held}
-use Rattle.plans.specs.declared.Answer.TheVariants.{Complete, Refused}
+use Rattle.plans.specs.declared.Success.TheVariants.{Complete}
 use Rattle.entries.specs.Entries.{sound_in}
 use Rattle.lending.specs.declared.Part.{Part}
 use Rattle.lending.specs.Lending.{located_in, located_by, located_of, answer_of, place_of, companion_of}
@@ -39,15 +39,15 @@ pub record Lent (image : List ℕ) (s n key len : ℕ) : Type 0 where
   pub inside : place_of (located_of image s n key) + len ≤ length image
   pub small : length image < 2 ^ 32
 
-refuses : (w : Refusal) (len : ℕ) → Refused w ≡ Complete len → ⊥
+refuses : (w : Refusal) (len : ℕ) → Err w ≡ Ok (Complete len) → ⊥
 refuses w len q = let z : ◌≡◌ {A = ℕ} 0 1 = cc in omega arith
 
-pub lent : (image : List ℕ) (s n key len : ℕ) → companion_of image s n key ≡ Complete len → Lent image s n key len
+pub lent : (image : List ℕ) (s n key len : ℕ) → companion_of image s n key ≡ Ok (Complete len) → Lent image s n key len
 unfolding located_of
 lent image s n key len q = go (hit_of image s n key) refl q
   where
     found : (r : ℕ) (x : Record) → hit_of image s n key ≡ hits r x → (b : Bool) → sound_in (region_of s image r) x ≡ b
-        → answer_of (cond b (Ok (record { place = r * s + x.at + 11; len = value_length x })) (Err Refusal.InvalidCheckSum)) ≡ Complete len → Lent image s n key len
+        → answer_of (cond b (Ok (record { place = r * s + x.at + 11; len = value_length x })) (Err Refusal.InvalidCheckSum)) ≡ Ok (Complete len) → Lent image s n key len
     found r x e false t q = absurd (refuses _ _ q)
     found r x e true t q =
         let h = held image s n key r x e in
@@ -65,7 +65,7 @@ lent image s n key len q = go (hit_of image s n key) refl q
           small = h.small;
         }
 
-    go : (hit : Result Hit Refusal) → hit_of image s n key ≡ hit → answer_of (located_by s image hit) ≡ Complete len → Lent image s n key len
+    go : (hit : Result Hit Refusal) → hit_of image s n key ≡ hit → answer_of (located_by s image hit) ≡ Ok (Complete len) → Lent image s n key len
     go (Err w) e q = absurd (refuses _ _ q)
     go (Ok h) e q = found h.region h.rec e (sound_in (region_of s image h.region) h.rec) refl q
 
@@ -76,15 +76,15 @@ part_inside image s n key e =
     (rw (sym (ap place_of e)) at l.inside, l.small)
 
 -- where it refuses the place is 0
-pub refused_place : (image : List ℕ) (s n key : ℕ) (w : Refusal) → companion_of image s n key ≡ Refused w → place_of (located_of image s n key) ≡ 0
+pub refused_place : (image : List ℕ) (s n key : ℕ) (w : Refusal) → companion_of image s n key ≡ Err w → place_of (located_of image s n key) ≡ 0
 unfolding located_of
 refused_place image s n key w q = go (hit_of image s n key) q
   where
-    found : (r : ℕ) (x : Record) (b : Bool) → answer_of (cond b (Ok (record { place = r * s + x.at + 11; len = value_length x })) (Err Refusal.InvalidCheckSum)) ≡ Refused w
+    found : (r : ℕ) (x : Record) (b : Bool) → answer_of (cond b (Ok (record { place = r * s + x.at + 11; len = value_length x })) (Err Refusal.InvalidCheckSum)) ≡ Err w
         → place_of (cond b (Ok (record { place = r * s + x.at + 11; len = value_length x })) (Err Refusal.InvalidCheckSum)) ≡ 0
     found r x true q = absurd (refuses _ _ (sym q))
     found r x false q = refl
 
-    go : (hit : Result Hit Refusal) → answer_of (located_by s image hit) ≡ Refused w → place_of (located_by s image hit) ≡ 0
+    go : (hit : Result Hit Refusal) → answer_of (located_by s image hit) ≡ Err w → place_of (located_by s image hit) ≡ 0
     go (Err v) q = refl
     go (Ok h) q = found h.region h.rec (sound_in (region_of s image h.region) h.rec) q

@@ -8,8 +8,8 @@ use Rattle.entries.specs.Entries.{sound_in}
 use Rattle.refusals.specs.declared.Refusal.{Refusal}
 use Rattle.lookup.specs.declared.Hit.{Hit}
 use Rattle.lookup.specs.Turns.{hit_of}
-use Rattle.plans.specs.declared.Answer.{Answer}
-use Rattle.plans.specs.declared.Answer.TheVariants.{Complete, Written, Freed, Refused}
+use Rattle.plans.specs.declared.Success.TheVariants.{Complete, Written, Freed}
+use Rattle.plans.specs.Answers.{Answer}
 use Rattle.lending.specs.declared.Part.{Part}
 
 -- R16.1: the checksum is looked at first: the value's length if it is right, and else InvalidCheckSum.
@@ -31,8 +31,8 @@ located_of image s n key = located_by s image (hit_of image s n key)
 
 -- R16.1: what is answered: Complete with the value's length, or the refusal.
 abbrev pub answer_of : Result Part Refusal → Answer
-answer_of (Ok part) = Complete part.len
-answer_of (Err w) = Refused w
+answer_of (Ok part) = Ok (Complete part.len)
+answer_of (Err w) = Err w
 
 -- R16.2: the image place of the value's first byte. Where it is refused the place is 0.
 abbrev pub place_of : Result Part Refusal → ℕ
@@ -46,10 +46,10 @@ companion_of image s n key = answer_of (located_of image s n key)
 -- R16.3: the part of the image that an answer with a place says: so many bytes from there on, and none where it is refused.
 -- (Written and Freed do not come: nothing is written here.)
 abbrev pub part_at : List ℕ → ℕ → Answer → List ℕ
-part_at image place (Complete len) = take len (drop place image)
-part_at image place Written = []
-part_at image place (Freed bytes) = []
-part_at image place (Refused w) = []
+part_at image place (Ok (Complete len)) = take len (drop place image)
+part_at image place (Ok Written) = []
+part_at image place (Ok (Freed bytes)) = []
+part_at image place (Err w) = []
 
 -- R16.3: the key's value, as a part of the image.
 abbrev pub value_of : List ℕ → ℕ → ℕ → ℕ → List ℕ

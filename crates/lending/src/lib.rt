@@ -7,7 +7,7 @@ ghost use Rattle.lending.specs.Lending.{located_in, located_of, companion_of, va
 
 use format::Record;
 use lookup::Found;
-use plans::Answer;
+use plans::{Answer, Success};
 use refusals::Refusal;
 
 // R16.1, R16.2: where a value lies: the image place of its first byte, and how many it has.
@@ -43,10 +43,8 @@ pub fn find_value(image: &[u8], s: usize, n: usize, key: u64) -> Result<Part, Re
 pub fn value_answer(image: &[u8], s: usize, n: usize, key: u64) -> Answer
     ensures { result ≡ companion_of image.now s n key }
 {
-    match find_value(image, s, n, key) {
-        Ok(part) => Answer::Complete(part.len),
-        Err(refusal) => Answer::Refused(refusal),
-    }
+    let part = find_value(image, s, n, key)?;
+    Ok(Success::Complete(part.len))
 }
 
 // R16.3: the value, as a part of the caller's image; empty where the companion refuses, and where the value is.

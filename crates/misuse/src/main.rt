@@ -3,7 +3,7 @@
 #![tactic(auto)]
 
 use host::{Host, Pace};
-use plans::Answer;
+use plans::Printed;
 use refusals::Refusal;
 use report::Hex;
 use running::{Op, Reply};
@@ -34,7 +34,7 @@ fn refused_starts(rt: &impl Print) -> io::Result<()> {
 fn started(rt: &impl Print, what: &str, start: Result<Op, Refusal>) -> io::Result<()> {
     match start {
         Ok(_) => println!(rt; "{what}"),
-        Err(refusal) => println!(rt; "{what} {}", Answer::Refused(refusal)),
+        Err(refusal) => println!(rt; "{what} {}", Printed(Err(refusal))),
     }
 }
 

@@ -4,13 +4,13 @@ use Prim.Native.Nat.{ℕ}
 use mathlib.Core.Path.{◌≡◌, refl, sym, ap, ◌∙◌}
 use mathlib.Core.Bool.{Bool, true, false, cond, true≢false}
 use lib.Dec.{eqb, ltb}
-use Rattle.std.specs.Prelude.{Option, Some, None}
+use Rattle.std.specs.Prelude.{Option, Some, None, Ok}
 use Rattle.lookup.proofs.Scan.{room_cases}
 use Rattle.format.specs.declared.Removal.{Removal}
 use Rattle.lookup.specs.declared.Room.{Room}
 use Rattle.lookup.specs.declared.Seen.{Seen}
 use Rattle.lookup.specs.Gather.{with_room, some_room}
-use Rattle.plans.specs.declared.Answer.TheVariants.{Complete, Written, Freed}
+use Rattle.plans.specs.declared.Success.TheVariants.{Complete, Written, Freed}
 use Rattle.plans.specs.declared.Aim.{Aim}
 use Rattle.plans.specs.declared.Lent.{Lent}
 use Rattle.plans.specs.declared.Edit.{Edit}
@@ -89,7 +89,7 @@ left_back op next (Edits.Erases i m) h l = go (ltb i m) l
     go false z = absurd (true≢false z)
 
 pub end_back : (op : Op) (es : Edits) → few es ≡ true → is_nothing (first es) ≡ false
-    → ((len : ℕ) → Back op (slot_of es) (Then.Ends (Complete len))) × Back op (slot_of es) (Then.Ends Written) × ((bytes : ℕ) → Back op (slot_of es) (Then.Ends (Freed bytes)))
+    → ((len : ℕ) → Back op (slot_of es) (Then.Ends (Ok (Complete len)))) × Back op (slot_of es) (Then.Ends (Ok Written)) × ((bytes : ℕ) → Back op (slot_of es) (Then.Ends (Ok (Freed bytes))))
 end_back op es h l =
     ((λ len. (refl, left_back op (next_at 3 len 0) es h l)), (refl, left_back op (next_at 4 0 0) es h l), λ bytes. (refl, left_back op (next_at 5 bytes 0) es h l))
 

@@ -5,11 +5,11 @@ use mathlib.Core.Path.{◌≡◌, refl, sym, ap, ◌∙◌}
 use mathlib.Core.Bool.{Bool, true, false, cond, ◌&&◌, true≢false}
 use lib.Dec.{eqb, ltb}
 use borrow.Author.Tests.{eqb-true, ne_eqb}
-use Rattle.std.specs.Prelude.{None}
+use Rattle.std.specs.Prelude.{None, Ok}
 use Rattle.chip.proofs.Image.{both}
 use Rattle.format.specs.declared.Removal.{Removal}
 use Rattle.lookup.specs.Gather.{unseen, with_room, some_room}
-use Rattle.plans.specs.declared.Answer.TheVariants.{Complete, Written, Freed}
+use Rattle.plans.specs.declared.Success.TheVariants.{Complete, Written, Freed}
 use Rattle.plans.specs.declared.Aim.{Aim}
 use Rattle.plans.specs.declared.Lent.{Lent}
 use Rattle.plans.specs.declared.Edit.{Edit}
@@ -162,9 +162,9 @@ own_next_lem o h e = go (eqb o.next 1) (eqb o.next 2) (eqb o.next 3) (eqb o.next
     read p q r s =
         cond p (Then.Seek (aim_in o.aim) o.a (with_room (gathered_in o.tag o.b o.c) unseen))
         (cond q (Then.Sweep o.a o.b)
-        (cond r (Then.Ends (Complete o.a))
-        (cond s (Then.Ends Written)
-        (Then.Ends (Freed o.a)))))
+        (cond r (Then.Ends (Ok (Complete o.a)))
+        (cond s (Then.Ends (Ok Written))
+        (Then.Ends (Ok (Freed o.a))))))
 
     go : (p q r s : Bool) → eqb o.next 1 ≡ p → eqb o.next 2 ≡ q → eqb o.next 3 ≡ r → eqb o.next 4 ≡ s
         → cond p (own_aim o.aim && own_gathered o.tag o.b o.c) (cond q (plain o) (cond r (own_end o) (cond s (eqb o.a 0 && own_end o) (eqb o.next 5 && own_end o)))) ≡ true

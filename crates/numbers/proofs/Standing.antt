@@ -5,14 +5,14 @@ use mathlib.Core.Path.{◌≡◌, refl, sym, ap, ◌∙◌}
 use mathlib.Core.Bool.{Bool, true, false, cond, ◌&&◌, true≢false}
 use lib.Dec.{eqb}
 use Rattle.plans.specs.declared.Edit.{Edit}
-use Rattle.std.specs.Prelude.{Option, Some, None}
+use Rattle.std.specs.Prelude.{Option, Some, None, Ok, Err}
 use Rattle.chip.specs.Geometry.{sized}
 use Rattle.probe.specs.Probe.{allowed_key}
 use Rattle.refusals.specs.declared.Refusal.{Refusal}
 use Rattle.refusals.specs.Refusals.{number}
-use Rattle.plans.specs.declared.Answer.{Answer}
-use Rattle.plans.specs.declared.Answer.TheVariants.{Complete, Written, Freed, Refused}
+use Rattle.plans.specs.declared.Success.TheVariants.{Complete, Written, Freed}
 use Rattle.plans.specs.declared.Then.{Then}
+use Rattle.plans.specs.Answers.{Answer}
 use Rattle.plans.specs.Writes.{value_lent, first}
 use Rattle.plans.specs.Fits.{value_short, edits_fit, then_fits, answer_rests, rests}
 use Rattle.running.specs.declared.Op.{Op}
@@ -88,7 +88,7 @@ number_some Refusal.BadCall = refl
 number_some Refusal.FlashFailed = refl
 
 -- a refusal after an edit
-refusal_late : (f : Option Edit) (w : Refusal) → is_nothing f ≡ false → answer_rests f (Refused w) ≡ false
+refusal_late : (f : Option Edit) (w : Refusal) → is_nothing f ≡ false → answer_rests f (Err w) ≡ false
 refusal_late (Some e) w l = number_some w
 refusal_late None w l = absurd (true≢false l)
 
@@ -117,11 +117,11 @@ unfolding packed
 ends op answer true l h =
     let at = before op (Then.Ends answer) in
     ended (rw l (not_ended at no_slot)) l (no_more op answer (nothing_left (first op.plan.edits) l))
-ends op (Complete len) false l h = let at = before op (Then.Ends (Complete len)) in runs (comes_back at l h ((end_back at op.plan.edits h l).0 len))
-ends op Written false l h = let at = before op (Then.Ends Written) in runs (comes_back at l h (end_back at op.plan.edits h l).1)
-ends op (Freed bytes) false l h = let at = before op (Then.Ends (Freed bytes)) in runs (comes_back at l h ((end_back at op.plan.edits h l).2 bytes))
-ends op (Refused w) false l h =
-    let at = before op (Then.Ends (Refused w)) in
+ends op (Ok (Complete len)) false l h = let at = before op (Then.Ends (Ok (Complete len))) in runs (comes_back at l h ((end_back at op.plan.edits h l).0 len))
+ends op (Ok Written) false l h = let at = before op (Then.Ends (Ok Written)) in runs (comes_back at l h (end_back at op.plan.edits h l).1)
+ends op (Ok (Freed bytes)) false l h = let at = before op (Then.Ends (Ok (Freed bytes))) in runs (comes_back at l h ((end_back at op.plan.edits h l).2 bytes))
+ends op (Err w) false l h =
+    let at = before op (Then.Ends (Err w)) in
     let e = broken at (refusal_late (first op.plan.edits) w l) in
     breaks (ap unpacked (whole_packed at l h) ∙ not_running at (slot_of op.plan.edits)) e (no_rule at e)
 

@@ -3,10 +3,9 @@
 use mathlib.Core.Path.{◌≡◌, refl, sym, ◌∙◌, ap}
 use mathlib.Core.Bool.{true, false, true≢false}
 use lib.ListN.{get_or}
-use Rattle.std.specs.Prelude.{Some}
-use Rattle.plans.specs.declared.Answer.{Answer}
-use Rattle.plans.specs.declared.Answer.TheVariants.{Complete, Written, Freed, Refused}
-use Rattle.plans.specs.Answers.{refusal, values}
+use Rattle.std.specs.Prelude.{Some, Ok, Err}
+use Rattle.plans.specs.declared.Success.TheVariants.{Complete, Written, Freed}
+use Rattle.plans.specs.Answers.{refusal, values, Answer}
 use Rattle.running.specs.declared.Op.{Op}
 use Rattle.running.specs.declared.Reply.{Reply}
 use Rattle.running.specs.declared.Request.{Request}
@@ -52,17 +51,17 @@ nothing_runs = refl
 
 -- R12.1: the refusal's number in an answer is its own, k for R6.k, and 0 where the answer is no refusal.
 pub refusal_numbers : (answer : Answer) → (answer_numbers answer).refusal ≡ refusal answer
-refusal_numbers (Complete len) = refl
-refusal_numbers Written = refl
-refusal_numbers (Freed bytes) = refl
-refusal_numbers (Refused w) = refl
+refusal_numbers (Ok (Complete len)) = refl
+refusal_numbers (Ok Written) = refl
+refusal_numbers (Ok (Freed bytes)) = refl
+refusal_numbers (Err w) = refl
 
 -- R12.1: the value in an answer is the one that the answer carries, and 0 where it carries none.
 pub value_numbers : (answer : Answer) → (answer_numbers answer).value ≡ get_or (values answer) 0 0
-value_numbers (Complete len) = refl
-value_numbers Written = refl
-value_numbers (Freed bytes) = refl
-value_numbers (Refused w) = refl
+value_numbers (Ok (Complete len)) = refl
+value_numbers (Ok Written) = refl
+value_numbers (Ok (Freed bytes)) = refl
+value_numbers (Err w) = refl
 
 -- R12.1: two answers with the same numbers are the same answer.
 pub one_answer : (a b : Answer) → answer_numbers a ≡ answer_numbers b → a ≡ b

@@ -3,14 +3,14 @@ use Rattle.std.specs.Prelude.{ℕ, ◌≡◌, Bool, true, false, cond, Result, O
 use Rattle.format.specs.declared.Removal.{Removal}
 use Rattle.lookup.specs.declared.Room.{Room}
 use Rattle.refusals.specs.Refusals.{number}
-use Rattle.plans.specs.declared.Answer.{Answer}
-use Rattle.plans.specs.declared.Answer.TheVariants.{Complete, Written, Freed, Refused}
+use Rattle.plans.specs.declared.Success.TheVariants.{Complete, Written, Freed}
 use Rattle.plans.specs.declared.Aim.{Aim}
 use Rattle.plans.specs.declared.Lent.{Lent}
 use Rattle.plans.specs.declared.Edit.{Edit}
 use Rattle.plans.specs.declared.Edits.{Edits}
 use Rattle.plans.specs.declared.Then.{Then}
 use Rattle.plans.specs.declared.Plan.{Plan}
+use Rattle.plans.specs.Answers.{Answer}
 use Rattle.plans.specs.Writes.{first}
 use Rattle.running.specs.declared.Op.{Op}
 use Rattle.operations.specs.declared.COperation.{COperation}
@@ -90,10 +90,10 @@ seek_numbers aim i (Some room) = record { next = 1; aim = aim_number aim; tag = 
 -- R12.4: an answer that is next, and what it carries. A refusal behind a write or an erase breaks the written rule (R8.10): `next` is 0, as in
 -- numbers that stand for no operation.
 abbrev pub end_numbers : Answer → Next
-end_numbers (Complete len) = next_at 3 len 0
-end_numbers Written = next_at 4 0 0
-end_numbers (Freed bytes) = next_at 5 bytes 0
-end_numbers (Refused w) = next_at 0 0 0
+end_numbers (Ok (Complete len)) = next_at 3 len 0
+end_numbers (Ok Written) = next_at 4 0 0
+end_numbers (Ok (Freed bytes)) = next_at 5 bytes 0
+end_numbers (Err w) = next_at 0 0 0
 
 -- R12.4: `next`: 1 a lookup, 2 collect's next region, 3 Complete, 4 Written, 5 Freed. Before a value that is to be handed over, or a refusal behind
 -- an edit, the written rule lets no operation rest (R8.10): `next` is 0, as in numbers that stand for no operation.

@@ -6,7 +6,7 @@ use crate::CStart;
 use format::Removal;
 use lookup::Room;
 use operations::COperation;
-use plans::{Aim, Answer, Edit, Edits, Lent, Plan, Then};
+use plans::{Aim, Answer, Edit, Edits, Lent, Plan, Success, Then};
 use refusals::Refusal;
 use running::Op;
 
@@ -170,10 +170,10 @@ fn end_numbers(answer: Answer) -> Next
     ensures { result ≡ end_numbers answer }
 {
     match answer {
-        Answer::Complete(len) => next_at(COperation::NEXT_COMPLETE, len, 0),
-        Answer::Written => next_at(COperation::NEXT_WRITTEN, 0, 0),
-        Answer::Freed(bytes) => next_at(COperation::NEXT_FREED, bytes, 0),
-        Answer::Refused(_) => next_at(0, 0, 0),
+        Ok(Success::Complete(len)) => next_at(COperation::NEXT_COMPLETE, len, 0),
+        Ok(Success::Written) => next_at(COperation::NEXT_WRITTEN, 0, 0),
+        Ok(Success::Freed(bytes)) => next_at(COperation::NEXT_FREED, bytes, 0),
+        Err(_) => next_at(0, 0, 0),
     }
 }
 

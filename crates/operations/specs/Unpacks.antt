@@ -1,10 +1,10 @@
 -- The running operation and the reply that numbers stand for.
-use Rattle.std.specs.Prelude.{ℕ, Bool, true, false, cond, ◌&&◌, eqb, ltb, Option, Some, None}
+use Rattle.std.specs.Prelude.{ℕ, Bool, true, false, cond, ◌&&◌, eqb, ltb, Option, Some, None, Ok}
 use Rattle.format.specs.declared.Record.{Record}
 use Rattle.format.specs.declared.Removal.{Removal}
 use Rattle.lookup.specs.declared.Room.{Room}
 use Rattle.lookup.specs.Gather.{unseen, with_room, some_room}
-use Rattle.plans.specs.declared.Answer.TheVariants.{Complete, Written, Freed}
+use Rattle.plans.specs.declared.Success.TheVariants.{Complete, Written, Freed}
 use Rattle.plans.specs.declared.Aim.{Aim}
 use Rattle.plans.specs.declared.Lent.{Lent}
 use Rattle.plans.specs.declared.Edit.{Edit}
@@ -52,9 +52,9 @@ abbrev pub next_in : COperation → Then
 next_in o =
     cond (eqb o.next 1) (Then.Seek (aim_in o.aim) o.a (with_room (gathered_in o.tag o.b o.c) unseen))
     (cond (eqb o.next 2) (Then.Sweep o.a o.b)
-    (cond (eqb o.next 3) (Then.Ends (Complete o.a))
-    (cond (eqb o.next 4) (Then.Ends Written)
-    (Then.Ends (Freed o.a)))))
+    (cond (eqb o.next 3) (Then.Ends (Ok (Complete o.a)))
+    (cond (eqb o.next 4) (Then.Ends (Ok Written))
+    (Then.Ends (Ok (Freed o.a))))))
 
 -- R12.4: the operation that all twenty numbers say.
 unfoldable pub read_as : COperation → Op

@@ -5,7 +5,7 @@ ghost use Rattle.operations.specs.Unpacks.{lent_in, record_in, edits_in, aim_in,
 use crate::COperation;
 use format::{Record, Removal};
 use lookup::{Room, Seen};
-use plans::{Aim, Answer, Edit, Edits, Lent, Plan, Then};
+use plans::{Aim, Edit, Edits, Lent, Plan, Success, Then};
 use running::{Op, Reply};
 
 fn lent_in(lent: u32, len: usize) -> Lent
@@ -117,12 +117,12 @@ fn next_in(o: COperation) -> Then
         };
     }
     if o.next == COperation::NEXT_COMPLETE {
-        return Then::Ends(Answer::Complete(o.a));
+        return Then::Ends(Ok(Success::Complete(o.a)));
     }
     if o.next == COperation::NEXT_WRITTEN {
-        return Then::Ends(Answer::Written);
+        return Then::Ends(Ok(Success::Written));
     }
-    Then::Ends(Answer::Freed(o.a))
+    Then::Ends(Ok(Success::Freed(o.a)))
 }
 
 // R12.4: what the numbers that are used say, each read as the last kind where it is the number of none: `stands` tells whether it is.

@@ -11,7 +11,7 @@ use lib.Dec.{ltb}
 use lib.ListN.{length}
 use borrow.Author.Tests.{lt-ltb, le-ltb, ltb-true, ltb-false}
 use Rattle.lookup.specs.Gather.{some_room}
-use Rattle.std.specs.Prelude.{Result, Err, Option, Some, None}
+use Rattle.std.specs.Prelude.{Result, Err, Option, Some, None, Ok}
 use Rattle.chip.specs.Geometry.{region_of}
 use Rattle.probe.specs.Probe.{probes}
 use Rattle.format.specs.declared.Record.{Record}
@@ -29,9 +29,8 @@ use Rattle.refusals.specs.Refusals.{number, refusal_of}
 use Rattle.lookup.specs.Turns.{hit_by, hit_of}
 use Rattle.lookup.specs.Words.{first_room}
 use Rattle.lookup.proofs.Scan.{room_from, room_cases}
-use Rattle.plans.specs.declared.Answer.{Answer}
-use Rattle.plans.specs.declared.Answer.TheVariants.{Complete}
-use Rattle.plans.specs.Answers.{refusal}
+use Rattle.plans.specs.declared.Success.TheVariants.{Complete}
+use Rattle.plans.specs.Answers.{refusal, Answer}
 use Rattle.plans.specs.Writes.{applied}
 use Rattle.store.specs.Read.{Got, got_by, get_of}
 use Rattle.store.specs.Write.{Done, refused, remove_by, remove_of}
@@ -245,7 +244,7 @@ module _ (image : List ℕ) (s n : ℕ) where
   succeeds_by : {c : Call} {a : Answer} → Succeeds c a → answer_of c image s n ≡ a → Succeeds c (answer_of c image s n)
   succeeds_by {c} h e = subst (Succeeds c) (sym e) h
 
-  get_succeeds : (key : ℕ) (buffer : List ℕ) → refusal (answer_of (get key buffer) image s n) ≡ 0 → (len : ℕ) × (answer_of (get key buffer) image s n ≡ Complete len)
+  get_succeeds : (key : ℕ) (buffer : List ℕ) → refusal (answer_of (get key buffer) image s n) ≡ 0 → (len : ℕ) × (answer_of (get key buffer) image s n ≡ Ok (Complete len))
   get_succeeds key buffer z =
       let (reads, found) = get_fine key buffer z in
       let (r, x, e, l, q) = found in

@@ -8,7 +8,7 @@ use mathlib.Core.Bool.{true}
 use mathlib.Core.List.{List, [], ◌∷◌}
 use lib.ListN.{length}
 use borrow.Author.Tests.{le-leb}
-use Rattle.std.specs.Prelude.{Option, Some}
+use Rattle.std.specs.Prelude.{Option, Some, Ok}
 use Rattle.chip.specs.Chip.{erased, written}
 use Rattle.chip.specs.Geometry.{Shape, region_of}
 use Rattle.chip.proofs.Image.{erased_regions, length-erased, fits_blank}
@@ -24,7 +24,7 @@ use Rattle.lookup.specs.declared.Room.{Room}
 use Rattle.lookup.specs.Gather.{or_room, some_room}
 use Rattle.lookup.specs.Words.{room_on, first_room}
 use Rattle.lookup.proofs.Scan.{gathered_first}
-use Rattle.plans.specs.declared.Answer.TheVariants.{Written}
+use Rattle.plans.specs.declared.Success.TheVariants.{Written}
 use Rattle.plans.specs.Writes.{applied}
 use Rattle.planning.specs.Planning.{place_plan}
 use Rattle.store.specs.Write.{carried, append_by, append_of}
@@ -51,7 +51,7 @@ module _ {s n : ℕ} (shape : Shape s n) where
       (ap (some_room r 0) (blank-take len (erased s) (blank_erased s)))
 
   pub blank_append : (key : ℕ) → (BadKey (append key []) → ⊥)
-      → append_of (erased (n * s)) s n key [] ≡ record { answer = Written; image = written (erased (n * s)) (home key n * s) (record_bytes key []) }
+      → append_of (erased (n * s)) s n key [] ≡ record { answer = Ok Written; image = written (erased (n * s)) (home key n * s) (record_bytes key []) }
   unfolding probe applied
   blank_append key h =
       let p = shape.n_least in
@@ -61,4 +61,4 @@ module _ {s n : ℕ} (shape : Shape s n) where
       outcome_is {c = append key []} (Early.fine (record { fits = fits_blank shape; key_good = h; not_large = omega arith }))
       ∙ ap (append_by s image key []) none
       ∙ ap (λ (room : Option Room). carried s key [] image (place_plan room)) (gathered_first key 15 s image (probes key n) none ∙ first_has 15 (home key n) (outward n (home key n) 1 n) (home_lt key n p) l)
-      ∙ ap (λ (at : ℕ). record { answer = Written; image = written image at (record_bytes key []) }) (add-zero (home key n * s))
+      ∙ ap (λ (at : ℕ). record { answer = Ok Written; image = written image at (record_bytes key []) }) (add-zero (home key n * s))

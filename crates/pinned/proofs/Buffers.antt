@@ -14,7 +14,7 @@ use Rattle.region.specs.Walk.{bytes_in, value_length}
 use Rattle.refusals.specs.declared.Refusal.{Refusal}
 use Rattle.lookup.specs.declared.Hit.{Hit}
 use Rattle.lookup.specs.Turns.{hit_of}
-use Rattle.plans.specs.declared.Answer.TheVariants.{Complete, Refused}
+use Rattle.plans.specs.declared.Success.TheVariants.{Complete}
 use Rattle.plans.specs.Answers.{refusal}
 use Rattle.store.specs.Read.{got_by, get_of}
 
@@ -23,8 +23,8 @@ pub refused_buffer : (image : List ℕ) (s n key : ℕ) (buffer : List ℕ) → 
 unfolding get_of
 refused_buffer image s n key buffer = go (hit_of image s n key)
   where
-    copies : (len : ℕ) (b d : Bool) → 1 ≤ refusal (cond b (Refused (Refusal.BufferTooSmall len)) (cond d (Complete len) (Refused Refusal.InvalidCheckSum)))
-        → refusal (cond b (Refused (Refusal.BufferTooSmall len)) (cond d (Complete len) (Refused Refusal.InvalidCheckSum))) < 9 → ⊥
+    copies : (len : ℕ) (b d : Bool) → 1 ≤ refusal (cond b (Err (Refusal.BufferTooSmall len)) (cond d (Ok (Complete len)) (Err Refusal.InvalidCheckSum)))
+        → refusal (cond b (Err (Refusal.BufferTooSmall len)) (cond d (Ok (Complete len)) (Err Refusal.InvalidCheckSum))) < 9 → ⊥
     copies len true d l h = omega arith
     copies len false true l h = omega arith
     copies len false false l h = omega arith

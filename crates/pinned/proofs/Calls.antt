@@ -8,7 +8,7 @@ use mathlib.Core.Bool.{Bool, true, false, cond}
 use mathlib.Core.List.{List, []}
 use lib.Dec.{ltb}
 use lib.ListN.{length}
-use Rattle.std.specs.Prelude.{Result, Option, Some, None}
+use Rattle.std.specs.Prelude.{Result, Option, Some, None, Ok, Err}
 use Rattle.chip.specs.Chip.{erased, written}
 use Rattle.chip.specs.Geometry.{Fits, region_of, numbers}
 use Rattle.chip.proofs.Image.{fits_geometry}
@@ -27,7 +27,7 @@ use Rattle.refusals.specs.Refusals.{first_refusal}
 use Rattle.lookup.specs.Turns.{lookup_in, hit_by, hit_after, hit_of, hits}
 use Rattle.lookup.specs.Words.{first_room}
 use Rattle.lookup.proofs.Scan.{gathered_first}
-use Rattle.plans.specs.declared.Answer.TheVariants.{Complete, Written, Refused}
+use Rattle.plans.specs.declared.Success.TheVariants.{Complete, Written}
 use Rattle.plans.specs.Answers.{refusal}
 use Rattle.plans.specs.Writes.{applied}
 use Rattle.planning.specs.Planning.{place_plan}
@@ -58,7 +58,7 @@ module _ (image : List ℕ) (s n : ℕ) where
 
   -- A removal of a live record.
   pub removed_live : {how : Removal} {key r : ℕ} {x : Record} → Reads image s n (remove how key) → ends key None ≡ Looked.Live r x
-      → outcome (remove how key) image s n ≡ record { answer = Written; image = written image (r * s + kill_place how x) (kill_bytes how x) }
+      → outcome (remove how key) image s n ≡ record { answer = Ok Written; image = written image (r * s + kill_place how x) (kill_bytes how x) }
   unfolding remove_of applied
   removed_live {how} {key} reads e = ap (remove_by how s image key) (hit_is reads remove_looks ∙ ap hit_by e)
 
@@ -86,7 +86,7 @@ module _ (image : List ℕ) (s n : ℕ) where
   initialise_left key h = rw h
 
   abbrev anew : ℕ → Done
-  anew key = record { answer = Written; image = written (erased (n * s)) (home key n * s) (record_bytes key []) }
+  anew key = record { answer = Ok Written; image = written (erased (n * s)) (home key n * s) (record_bytes key []) }
 
   pub initialise_anew : (key : ℕ) → Reads image s n (initialise key) → 1 ≤ refusal (answer_of (get key []) image s n) → outcome (initialise key) image s n ≡ anew key
   unfolding initialise_of get_of
@@ -100,8 +100,8 @@ module _ (image : List ℕ) (s n : ℕ) where
       blank : append_of (erased (n * s)) s n key [] ≡ anew key
       blank = blank_append reads.fits.shape key reads.key_good
 
-      value : (len : ℕ) (b d : Bool) → 1 ≤ refusal (cond b (Refused (Refusal.BufferTooSmall len)) (cond d (Complete len) (Refused Refusal.InvalidCheckSum)))
-          → initialise_by image s n key (cond b (Refused (Refusal.BufferTooSmall len)) (cond d (Complete len) (Refused Refusal.InvalidCheckSum))) ≡ anew key
+      value : (len : ℕ) (b d : Bool) → 1 ≤ refusal (cond b (Err (Refusal.BufferTooSmall len)) (cond d (Ok (Complete len)) (Err Refusal.InvalidCheckSum)))
+          → initialise_by image s n key (cond b (Err (Refusal.BufferTooSmall len)) (cond d (Ok (Complete len)) (Err Refusal.InvalidCheckSum))) ≡ anew key
       value len true d h = blank
       value len false true h = absurd (omega arith)
       value len false false h = blank

@@ -9,13 +9,14 @@ use mathlib.Core.Logic.{◌↔◌}
 use lib.Dec.{eqb}
 use lib.ListN.{length}
 use borrow.Author.Tests.{eqb-true, eqb-false}
+use Rattle.std.specs.Prelude.{Ok}
 use Rattle.chip.specs.Chip.{erased}
 use Rattle.chip.specs.Geometry.{Fits, geometry, region_of, numbers}
 use Rattle.chip.proofs.Image.{fits_geometry}
 use Rattle.probe.proofs.Theorems.{Distinct, none, one}
 use Rattle.format.specs.declared.Fault.{Fault}
-use Rattle.plans.specs.declared.Answer.{Answer}
-use Rattle.plans.specs.declared.Answer.TheVariants.{Freed}
+use Rattle.plans.specs.declared.Success.TheVariants.{Freed}
+use Rattle.plans.specs.Answers.{Answer}
 use Rattle.sweeping.specs.declared.Verdict.{Verdict}
 use Rattle.sweeping.specs.Sweeps.{verdict}
 use Rattle.store.specs.Write.{Done}
@@ -70,10 +71,10 @@ module _ (image : List ℕ) (s n : ℕ) (f : Fits image s n) where
           c b.region (omega arith) (omega arith) g b.place b.bad
 
   -- What Freed says.
-  pub freed_all : {bytes : ℕ} → answer_of collect image s n ≡ Freed bytes → (bytes ≡ s * length (erased_by image s n)) × ((q : ℕ) → q < n → NotBad (region_of s image q))
+  pub freed_all : {bytes : ℕ} → answer_of collect image s n ≡ Ok (Freed bytes) → (bytes ≡ s * length (erased_by image s n)) × ((q : ℕ) → q < n → NotBad (region_of s image q))
   freed_all {bytes} h = go (ended s image (s * length (erased_by image s n)) n 0) (sym (ap (λ (d : Done). d.answer) (collect_is image s n f)) ∙ h)
     where
-      go : {a : Answer} → Ended s image (s * length (erased_by image s n)) 0 n a → a ≡ Freed bytes → (bytes ≡ s * length (erased_by image s n)) × ((q : ℕ) → q < n → NotBad (region_of s image q))
+      go : {a : Answer} → Ended s image (s * length (erased_by image s n)) 0 n a → a ≡ Ok (Freed bytes) → (bytes ≡ s * length (erased_by image s n)) × ((q : ℕ) → q < n → NotBad (region_of s image q))
       go (Ended.all c) e = (cc, λ q l. c q (omega arith) (omega arith))
       go (Ended.ends_bad w) e = absurd (let z : ◌≡◌ {A = ℕ} 0 1 = cc in omega arith)
 

@@ -18,7 +18,6 @@ use Rattle.format.specs.Layout.{edition, largest_value}
 use Rattle.refusals.specs.declared.Refusal.{Refusal}
 use Rattle.refusals.specs.Refusals.{first_refusal}
 use Rattle.lookup.specs.Turns.{hit_after, hit_of}
-use Rattle.plans.specs.declared.Answer.TheVariants.{Refused}
 use Rattle.plans.specs.Answers.{starts_anew}
 use Rattle.plans.specs.Writes.{applied}
 use Rattle.store.specs.Write.{Done, refused, append_after, append_of, remove_by, remove_of, initialise_by, initialise_of}
@@ -139,7 +138,7 @@ pub outcome_is : {image : List ℕ} {s n : ℕ} {c : Call} {check : Result (Unit
 outcome_is {image} {s} {n} {c} e = outcome_after image s n c ∙ ap (after c image s n) (early_is e)
 
 -- Each of the three hands the image back, initialise's too.
-handed_back : (image : List ℕ) (s n : ℕ) (c : Call) (w : Refusal) → starts_anew (Refused w) ≡ false → after c image s n (Err w) ≡ refused w image
+handed_back : (image : List ℕ) (s n : ℕ) (c : Call) (w : Refusal) → starts_anew (Err w) ≡ false → after c image s n (Err w) ≡ refused w image
 unfolding applied
 handed_back image s n (get key buffer) w h = refl
 handed_back image s n (append key value) w h = refl
@@ -147,7 +146,7 @@ handed_back image s n (remove how key) w h = refl
 handed_back image s n collect w h = refl
 handed_back image s n (initialise key) w h = rw h
 
-kept : {image : List ℕ} {s n : ℕ} {c : Call} {w : Refusal} → Early image s n c (Err w) → starts_anew (Refused w) ≡ false
+kept : {image : List ℕ} {s n : ℕ} {c : Call} {w : Refusal} → Early image s n c (Err w) → starts_anew (Err w) ≡ false
 kept (geometry_bad p) = refl
 kept (key_bad p q) = refl
 kept (too_large p q t) = refl

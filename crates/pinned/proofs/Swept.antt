@@ -12,6 +12,7 @@ use mathlib.Core.Logic.{◌↔◌, ◌⊎◌, inl, inr, ⊎_elim}
 use lib.Dec.{eqb}
 use lib.ListN.{length}
 use borrow.Author.Tests.{eqb-true, eqb-false}
+use Rattle.std.specs.Prelude.{Ok, Err}
 use Rattle.chip.specs.Chip.{erased}
 use Rattle.chip.specs.Geometry.{Fits, region_of, erase_region, numbers}
 use Rattle.chip.proofs.Lists.{Every}
@@ -24,8 +25,8 @@ use Rattle.region.specs.declared.Event.{Event}
 use Rattle.region.specs.Walk.{records, event_in}
 use Rattle.region.proofs.Theorems.{live_decides, stop_decides}
 use Rattle.refusals.specs.Refusals.{refusal_of}
-use Rattle.plans.specs.declared.Answer.{Answer}
-use Rattle.plans.specs.declared.Answer.TheVariants.{Freed, Refused}
+use Rattle.plans.specs.declared.Success.TheVariants.{Freed}
+use Rattle.plans.specs.Answers.{Answer}
 use Rattle.sweeping.specs.declared.Verdict.{Verdict}
 use Rattle.sweeping.specs.Sweeps.{no_records, verdict, verdict_on}
 use Rattle.store.specs.Write.{Done, refused}
@@ -78,10 +79,10 @@ dead_not_bad {region} d f o h =
 abbrev end_on : Verdict → Answer → Answer
 end_on Verdict.Stands rest = rest
 end_on Verdict.Erase rest = rest
-end_on (Verdict.Bad f p) rest = Refused (refusal_of f)
+end_on (Verdict.Bad f p) rest = Err (refusal_of f)
 
 unfoldable pub ended_by : ℕ → List ℕ → ℕ → List ℕ → Answer
-ended_by s image total [] = Freed total
+ended_by s image total [] = Ok (Freed total)
 ended_by s image total (r ∷ rs) = end_on (verdict r (region_of s image r)) (ended_by s image total rs)
 
 -- The image so far is as at first from region r on: what collect does from there is what the image at first says.
@@ -137,8 +138,8 @@ module _ (s : ℕ) (image : List ℕ) where
     pub first : (q : ℕ) → r ≤ q → q < region → NotBad (region_of s image q)
 
   pub data Ended (total r k : ℕ) : Answer → Type 0 where
-    all : ((q : ℕ) → r ≤ q → q < r + k → NotBad (region_of s image q)) → Ended total r k (Freed total)
-    ends_bad : {f : Fault} → BadFrom r k f → Ended total r k (Refused (refusal_of f))
+    all : ((q : ℕ) → r ≤ q → q < r + k → NotBad (region_of s image q)) → Ended total r k (Ok (Freed total))
+    ends_bad : {f : Fault} → BadFrom r k f → Ended total r k (Err (refusal_of f))
 
   -- region r, and those after it
   here_or_later : (r q : ℕ) → r ≤ q → (q ≡ r) ⊎ (r + 1 ≤ q)
@@ -176,7 +177,7 @@ module _ (s : ℕ) (image : List ℕ) where
       go ih (bad {o = o} e) = ends_bad (record { region = r; place = o; low = omega arith; high = omega arith; bad = e; first = λ q l u. absurd (omega arith) })
 
   -- Over all regions: the first bad one is where it ends.
-  pub first_bad : {n : ℕ} {f : Fault} (total : ℕ) → FirstBad image s n f → ended_by s image total (numbers 0 n) ≡ Refused (refusal_of f)
+  pub first_bad : {n : ℕ} {f : Fault} (total : ℕ) → FirstBad image s n f → ended_by s image total (numbers 0 n) ≡ Err (refusal_of f)
   first_bad {n} {f} total b = go (ended total n 0)
     where
       same_fault : {g : Fault} (w : BadFrom 0 n g) → Dec (w.region < b.region) → Dec (b.region < w.region) → g ≡ f
@@ -188,9 +189,9 @@ module _ (s : ℕ) (image : List ℕ) where
           let k = b.bad in
           cc
 
-      go : {a : Answer} → Ended total 0 n a → a ≡ Refused (refusal_of f)
+      go : {a : Answer} → Ended total 0 n a → a ≡ Err (refusal_of f)
       go (all h) = absurd (h b.region (omega arith) (omega (arith, b.inside)) f b.place b.bad)
-      go (ends_bad w) = ap (λ (g : Fault). Refused (refusal_of g)) (same_fault w (dec_lt _ _) (dec_lt _ _))
+      go (ends_bad w) = ap (λ (g : Fault). Err (refusal_of g)) (same_fault w (dec_lt _ _) (dec_lt _ _))
 
   pub is_first : {n : ℕ} {f : Fault} → BadFrom 0 n f → FirstBad image s n f
   is_first w = record { region = w.region; place = w.place; inside = omega (arith, w.high); bad = w.bad; first = λ q l. w.first q (omega arith) l }

@@ -9,7 +9,7 @@ use mathlib.Core.Logic.{◌↔◌, ⊎_elim}
 use lib.ListN.{length, take, drop}
 use borrow.Author.Tests.{lt-ltb, le-ltb}
 use Rattle.lookup.specs.Gather.{some_room}
-use Rattle.std.specs.Prelude.{Option, Some, None}
+use Rattle.std.specs.Prelude.{Option, Some, None, Ok, Err}
 use Rattle.chip.specs.Chip.{Bytes, written, erased, is_blank}
 use Rattle.chip.specs.Geometry.{Fits, region_of}
 use Rattle.chip.proofs.Image.{region-length}
@@ -29,9 +29,8 @@ use Rattle.refusals.specs.Refusals.{refusal_of}
 use Rattle.lookup.specs.Turns.{lookup_in}
 use Rattle.lookup.specs.Words.{first_room, Passed}
 use Rattle.lookup.proofs.Scan.{gathered_first}
-use Rattle.plans.specs.declared.Answer.{Answer}
-use Rattle.plans.specs.declared.Answer.TheVariants.{Complete, Written, Freed, Refused}
-use Rattle.plans.specs.Answers.{refusal}
+use Rattle.plans.specs.declared.Success.TheVariants.{Complete, Written, Freed}
+use Rattle.plans.specs.Answers.{refusal, Answer}
 use Rattle.planning.specs.Planning.{place_plan, append_plan}
 use Rattle.store.specs.Write.{Done, append_of, remove_of, initialise_of}
 use Rattle.store.specs.Read.{Got, get_of}
@@ -128,7 +127,7 @@ refused_leaves c image s n l = ap (λ (d : Done). d.image) (refused_when image s
 
 -- R5.8: a bad place that decides ends collect with its refusal. The regions before it are collected already; it and those after it stand.
 pub collect_refused : {f : Fault} (image : List ℕ) (s n : ℕ) → Fits image s n → (b : FirstBad image s n f)
-    → (answer_of collect image s n ≡ Refused (refusal_of f))
+    → (answer_of collect image s n ≡ Err (refusal_of f))
     × ((q : ℕ) → q < b.region → Collected s (region_of s image q) (region_of s (image_after collect image s n) q))
     × ((q : ℕ) → b.region ≤ q → region_of s (image_after collect image s n) q ≡ region_of s image q)
 collect_refused {f} image s n fits b = (
@@ -162,28 +161,28 @@ get_answers key buffer image s n h = get_fine image s n key buffer h
 module _ (key : ℕ) (buffer image : List ℕ) (s n r : ℕ) (x : Record) (reads : Reads image s n (get key buffer)) (live : lookup_in key None s image (probes key n) ≡ Looked.Live r x) where
   -- R5.2: a shorter buffer is filled with the value's first bytes: BufferTooSmall with the value's length, the checksum not looked at.
   pub get_short : length buffer < value_length x
-      → get_of image s n key buffer ≡ record { answer = Refused (Refusal.BufferTooSmall (value_length x)); buffer = take (length buffer) (value_in (region_of s image r) x) }
+      → get_of image s n key buffer ≡ record { answer = Err (Refusal.BufferTooSmall (value_length x)); buffer = take (length buffer) (value_in (region_of s image r) x) }
   get_short l = got_live image s n buffer reads live ∙ rw (lt-ltb (length buffer) (value_length x) l)
 
   -- R5.2: else the value is copied to the front, the bytes after it stay as they were, and the checksum is compared: Complete if it is right,
   pub get_complete : value_length x ≤ length buffer → check_sum_fits (bytes_in (region_of s image r) x) ≡ true
-      → get_of image s n key buffer ≡ record { answer = Complete (value_length x); buffer = value_in (region_of s image r) x ++ drop (value_length x) buffer }
+      → get_of image s n key buffer ≡ record { answer = Ok (Complete (value_length x)); buffer = value_in (region_of s image r) x ++ drop (value_length x) buffer }
   get_complete l e = got_live image s n buffer reads live ∙ rw (le-ltb (length buffer) (value_length x) l, e)
 
   -- R5.2: else InvalidCheckSum, with the copy left in the buffer.
   pub get_wrong_sum : value_length x ≤ length buffer → check_sum_fits (bytes_in (region_of s image r) x) ≡ false
-      → get_of image s n key buffer ≡ record { answer = Refused Refusal.InvalidCheckSum; buffer = value_in (region_of s image r) x ++ drop (value_length x) buffer }
+      → get_of image s n key buffer ≡ record { answer = Err Refusal.InvalidCheckSum; buffer = value_in (region_of s image r) x ++ drop (value_length x) buffer }
   get_wrong_sum l e = got_live image s n buffer reads live ∙ rw (le-ltb (length buffer) (value_length x) l, e)
 
 -- Written.
 
 -- R5.4: Written is answered where the record was written, on a blank place, and nowhere else. A value's bytes are below 256.
-pub append_written : (key : ℕ) (value image : List ℕ) (s n : ℕ) → Bytes value → answer_of (append key value) image s n ≡ Written
+pub append_written : (key : ℕ) (value image : List ℕ) (s n : ℕ) → Bytes value → answer_of (append key value) image s n ≡ Ok Written
     → Appended image s n key value (image_after (append key value) image s n)
 append_written key value image s n v h = append_wrote image s n key value v h
 
 -- R5.5, R5.6: Written is answered where the record that decides was invalidated or zeroised by its one write, and nowhere else.
-pub remove_written : (how : Removal) (key : ℕ) (image : List ℕ) (s n : ℕ) → Bytes image → answer_of (remove how key) image s n ≡ Written
+pub remove_written : (how : Removal) (key : ℕ) (image : List ℕ) (s n : ℕ) → Bytes image → answer_of (remove how key) image s n ≡ Ok Written
     → Removed how image s n key (image_after (remove how key) image s n)
 remove_written how key image s n v h = remove_wrote how image s n key v h
 
@@ -198,7 +197,7 @@ pub erases_once : (image : List ℕ) (s n : ℕ) → Distinct (erased_by image s
 erases_once image s n = erased_once image s n
 
 -- R5.7: Freed with S times the number of regions erased: these were dead, they are blank now, and the others are as they were.
-pub freed_is_counted : (image : List ℕ) (s n bytes : ℕ) → answer_of collect image s n ≡ Freed bytes
+pub freed_is_counted : (image : List ℕ) (s n bytes : ℕ) → answer_of collect image s n ≡ Ok (Freed bytes)
     → (bytes ≡ s * length (erased_by image s n))
     × ((q : ℕ) → Memᴰ q (erased_by image s n) ↔ ((q < n) × Dead (region_of s image q)))
     × ((q : ℕ) → q < n → Collected s (region_of s image q) (region_of s (image_after collect image s n) q))
@@ -217,16 +216,16 @@ freed_is_counted image s n bytes h =
 
 -- R5.9, R7.1: if that is Complete, so is initialise, with 0, and nothing changes.
 pub initialise_complete : (key : ℕ) (image : List ℕ) (s n : ℕ) → refusal (answer_of (get key []) image s n) ≡ 0
-    → outcome (initialise key) image s n ≡ record { answer = Complete 0; image = image }
+    → outcome (initialise key) image s n ≡ record { answer = Ok (Complete 0); image = image }
 initialise_complete key image s n h =
     let (reads, (r, x, live, fits, sum)) = get_answers key [] image s n h in
     let e : value_length x ≡ 0 = omega (arith, fits) in
-    let got = ap (λ (g : Got). g.answer) (get_complete key [] image s n r x reads live fits sum) ∙ ap Complete e in
+    let got = ap (λ (g : Got). g.answer) (get_complete key [] image s n r x reads live fits sum) ∙ ap (λ (len : ℕ). Ok (Complete len)) e in
     initialise_left image s n key h ∙ ap (λ (a : Answer). record { answer = a; image = image }) got
 
 -- R5.9: if it is refused by 4, 7, 8, 9 or 10, every region is erased and the main key is appended with an empty value: Written.
 pub initialise_written : (key : ℕ) (image : List ℕ) (s n : ℕ) → 4 ≤ refusal (answer_of (get key []) image s n)
-    → outcome (initialise key) image s n ≡ record { answer = Written; image = written (erased (n * s)) (home key n * s) (record_bytes key []) }
+    → outcome (initialise key) image s n ≡ record { answer = Ok Written; image = written (erased (n * s)) (home key n * s) (record_bytes key []) }
 initialise_written key image s n h =
     let reads = line_reads ((exactly_when _ (get key []) image s n (omega arith)).0 refl) h in
     initialise_anew image s n key (record { fits = reads.fits; key_good = reads.key_good; not_large = omega arith }) (omega arith)

@@ -10,7 +10,7 @@ use lib.ListN.{length, get_or, take, drop, length-drop}
 use lib.Seq.{length-take-le, get_or-drop}
 use borrow.Author.Tests.{eqb-true}
 use Rattle.lookup.specs.Gather.{some_room}
-use Rattle.std.specs.Prelude.{Some, None}
+use Rattle.std.specs.Prelude.{Some, None, Ok}
 use Rattle.chip.specs.Chip.{Bytes, written}
 use Rattle.chip.specs.Geometry.{region_of}
 use Rattle.chip.proofs.Laws.{bytes_cons, blank_at_lem}
@@ -31,7 +31,7 @@ use Rattle.lookup.specs.declared.Looked.{Looked}
 use Rattle.lookup.specs.Words.{first_room}
 use Rattle.lookup.specs.Turns.{lookup_in}
 use Rattle.lookup.proofs.Scan.{found, room_from}
-use Rattle.plans.specs.declared.Answer.TheVariants.{Written}
+use Rattle.plans.specs.declared.Success.TheVariants.{Written}
 use Rattle.plans.specs.Answers.{refusal}
 use Rattle.plans.specs.Writes.{applied}
 use Rattle.store.specs.Write.{Done}
@@ -75,7 +75,7 @@ module _ (image : List ℕ) (s n key : ℕ) (value : List ℕ) (v : Bytes value)
             omega (arith, ap (λ (l : List ℕ). get_or l 0 0) is);
       }
 
-pub append_wrote : (image : List ℕ) (s n key : ℕ) (value : List ℕ) → Bytes value → answer_of (append key value) image s n ≡ Written
+pub append_wrote : (image : List ℕ) (s n key : ℕ) (value : List ℕ) → Bytes value → answer_of (append key value) image s n ≡ Ok Written
     → Appended image s n key value (image_after (append key value) image s n)
 append_wrote image s n key value v h = let reads = reads_if image s n (append key value) (ap refusal h) in go reads (appending image s n key value reads)
   where
@@ -147,7 +147,7 @@ module _ (how : Removal) (image : List ℕ) (s n key : ℕ) (v : Bytes image) (r
             omega arith;
       }
 
-pub remove_wrote : (how : Removal) (image : List ℕ) (s n key : ℕ) → Bytes image → answer_of (remove how key) image s n ≡ Written → Removed how image s n key (image_after (remove how key) image s n)
+pub remove_wrote : (how : Removal) (image : List ℕ) (s n key : ℕ) → Bytes image → answer_of (remove how key) image s n ≡ Ok Written → Removed how image s n key (image_after (remove how key) image s n)
 remove_wrote how image s n key v h = let reads = reads_if image s n (remove how key) (ap refusal h) in go reads (removing image s n how key reads)
   where
     go : Reads image s n (remove how key) → Removing image s n how key → Removed how image s n key (image_after (remove how key) image s n)

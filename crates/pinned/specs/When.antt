@@ -1,6 +1,6 @@
 -- When each refusal comes, over any call on any image.
 use Rattle.lookup.specs.Gather.{some_room}
-use Rattle.std.specs.Prelude.{ℕ, ◌-◌, ◌^◌, ◌≤◌, ◌<◌, ◌≡◌, Bool, false, List, ◌⊎◌, length, take, drop, Option, Some, None}
+use Rattle.std.specs.Prelude.{ℕ, ◌-◌, ◌^◌, ◌≤◌, ◌<◌, ◌≡◌, Bool, false, List, ◌⊎◌, length, take, drop, Option, Some, None, Ok}
 use Rattle.std.proofs.Math.Option.{some}
 use Rattle.chip.specs.Chip.{is_blank}
 use Rattle.chip.specs.Geometry.{Fits, region_of}
@@ -17,8 +17,8 @@ use Rattle.lookup.specs.declared.Seen.{Seen}
 use Rattle.lookup.specs.declared.Looked.{Looked}
 use Rattle.lookup.specs.Words.{first_room}
 use Rattle.lookup.specs.Turns.{lookup_in}
-use Rattle.plans.specs.declared.Answer.{Answer}
-use Rattle.plans.specs.declared.Answer.TheVariants.{Complete, Written, Freed}
+use Rattle.plans.specs.declared.Success.TheVariants.{Complete, Written, Freed}
+use Rattle.plans.specs.Answers.{Answer}
 use Rattle.store.specs.Call.{Call, get, append, remove, collect, initialise, key_of, value_of}
 
 -- R6.2: the key is 0 or 2^64 - 1.
@@ -97,9 +97,9 @@ pub data When (image : List ℕ) (s n : ℕ) : ℕ → Call → Type 0 where
 -- R7.1: the answers that are no refusal, call by call: Complete with a length, Written, Freed with a number of bytes. What they carry is left open
 -- here, initialise's length too, which R7.1 says is 0: `initialise_complete` proves that.
 pub data Succeeds : Call → Answer → Type 0 where
-  get_completes : {key : ℕ} {buffer : List ℕ} {len : ℕ} → Succeeds (get key buffer) (Complete len)
-  append_writes : {key : ℕ} {value : List ℕ} → Succeeds (append key value) Written
-  remove_writes : {how : Removal} {key : ℕ} → Succeeds (remove how key) Written
-  collect_frees : {bytes : ℕ} → Succeeds collect (Freed bytes)
-  initialise_finds : {key : ℕ} {len : ℕ} → Succeeds (initialise key) (Complete len)
-  initialise_writes : {key : ℕ} → Succeeds (initialise key) Written
+  get_completes : {key : ℕ} {buffer : List ℕ} {len : ℕ} → Succeeds (get key buffer) (Ok (Complete len))
+  append_writes : {key : ℕ} {value : List ℕ} → Succeeds (append key value) (Ok Written)
+  remove_writes : {how : Removal} {key : ℕ} → Succeeds (remove how key) (Ok Written)
+  collect_frees : {bytes : ℕ} → Succeeds collect (Ok (Freed bytes))
+  initialise_finds : {key : ℕ} {len : ℕ} → Succeeds (initialise key) (Ok (Complete len))
+  initialise_writes : {key : ℕ} → Succeeds (initialise key) (Ok Written)

@@ -12,14 +12,13 @@ use Rattle.lookup.specs.declared.Room.{Room}
 use Rattle.lookup.proofs.Scan.{room_cases}
 use Rattle.lookup.specs.declared.Seen.{Seen}
 use Rattle.lookup.specs.declared.Looked.{Looked}
-use Rattle.plans.specs.declared.Answer.{Answer}
 use Rattle.plans.specs.declared.Aim.{Aim}
 use Rattle.plans.specs.declared.Lent.{Lent}
 use Rattle.plans.specs.declared.Edit.{Edit}
 use Rattle.plans.specs.declared.Edits.{Edits}
 use Rattle.plans.specs.declared.Then.{Then}
 use Rattle.plans.specs.declared.Plan.{Plan}
-use Rattle.plans.specs.Answers.{starts_anew}
+use Rattle.plans.specs.Answers.{starts_anew, Answer}
 use Rattle.plans.specs.Writes.{value_lent, first, ends}
 use Rattle.plans.specs.Fits.{record_fits, edit_fits, edits_fit, room_fits, seen_fits, lent_to_append, lent_for, value_short, then_fits, answer_rests, rests}
 use Rattle.planning.specs.Planning.{writes, gives, anew, place_plan, plan, given_plan}

@@ -9,13 +9,13 @@ use Rattle.lookup.specs.declared.Room.{Room}
 use Rattle.lookup.specs.declared.Looked.{Looked}
 use Rattle.lookup.specs.declared.Hit.{Hit}
 use Rattle.lookup.specs.Turns.{refused_by, hit_by}
-use Rattle.plans.specs.declared.Answer.{Answer}
+use Rattle.plans.specs.declared.Success.{Success}
 use Rattle.plans.specs.declared.Aim.{Aim}
 use Rattle.plans.specs.declared.Edit.{Edit}
 use Rattle.plans.specs.declared.Edits.{Edits}
 use Rattle.plans.specs.declared.Then.{Then}
 use Rattle.plans.specs.declared.Plan.{Plan}
-use Rattle.plans.specs.Answers.{starts_anew}
+use Rattle.plans.specs.Answers.{starts_anew, Answer}
 use Rattle.plans.specs.Writes.{follows, ends, refuses, look}
 
 -- R5.4: what an aim's lookup is for: append's gathers room for its record, where a value of so many bytes is lent, the others gather nothing
@@ -27,7 +27,7 @@ need_of Aim.Initialise len = None
 
 -- R8.8: Written is answered after these are done
 abbrev pub writes : Edits → Plan
-writes es = record { edits = es; next = Then.Ends Answer.Written }
+writes es = record { edits = es; next = Then.Ends (Ok Success.Written) }
 
 -- R5.2: a live record decides, and its value is given. Where `again` is true this is initialise's get (R5.9).
 abbrev pub gives : ℕ → Record → Bool → Plan

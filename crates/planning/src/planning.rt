@@ -5,7 +5,7 @@ ghost use Rattle.planning.specs.Planning.{need_of, writes, gives, anew, get_plan
 
 use format::{Record, Removal};
 use lookup::{Hit, Looked, Room, Seen};
-use plans::{Aim, Answer, Edit, Edits, Plan, Then};
+use plans::{Aim, Answer, Edit, Edits, Plan, Success, Then};
 use refusals::Refusal;
 
 // The bytes of the record that an aim's lookup needs room for, where a value of so many is lent: only append needs any.
@@ -24,7 +24,7 @@ fn write_one(edit: Edit) -> Plan
 {
     Plan {
         edits: Edits::One(edit),
-        next: Then::Ends(Answer::Written),
+        next: Then::Ends(Ok(Success::Written)),
     }
 }
 

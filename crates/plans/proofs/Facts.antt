@@ -12,13 +12,13 @@ use Rattle.format.specs.declared.Record.{Record}
 use Rattle.format.specs.declared.Removal.{Removal}
 use Rattle.lookup.specs.declared.Seen.{Seen}
 use Rattle.lookup.specs.Gather.{unseen}
-use Rattle.plans.specs.declared.Answer.{Answer}
 use Rattle.plans.specs.declared.Aim.{Aim}
 use Rattle.plans.specs.declared.Lent.{Lent}
 use Rattle.plans.specs.declared.Edit.{Edit}
 use Rattle.plans.specs.declared.Edits.{Edits}
 use Rattle.plans.specs.declared.Then.{Then}
 use Rattle.plans.specs.declared.Plan.{Plan}
+use Rattle.plans.specs.Answers.{Answer}
 use Rattle.plans.specs.Writes.{value_lent, in_region, start_of, size_of, first, rest, ends, look}
 use Rattle.plans.specs.Fits.{lies, record_fits, place_fits, edit_fits, edits_fit, seen_fits, lent_for, value_short, then_fits, rests, plan_fits}
 

@@ -4,14 +4,13 @@ use Rattle.format.specs.declared.Record.{Record}
 use Rattle.format.specs.Layout.{edition, least_length, most_length, largest_value, record_length}
 use Rattle.lookup.specs.declared.Room.{Room}
 use Rattle.lookup.specs.declared.Seen.{Seen}
-use Rattle.plans.specs.declared.Answer.{Answer}
 use Rattle.plans.specs.declared.Aim.{Aim}
 use Rattle.plans.specs.declared.Lent.{Lent}
 use Rattle.plans.specs.declared.Edit.{Edit}
 use Rattle.plans.specs.declared.Edits.{Edits}
 use Rattle.plans.specs.declared.Then.{Then}
 use Rattle.plans.specs.declared.Plan.{Plan}
-use Rattle.plans.specs.Answers.{refusal}
+use Rattle.plans.specs.Answers.{refusal, Answer}
 use Rattle.plans.specs.Writes.{value_lent, first}
 
 -- R8.10: what lies within its region: so many bytes from place o on, in a region of s bytes

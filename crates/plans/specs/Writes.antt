@@ -1,18 +1,18 @@
 -- What is lent to an operation; edits: what one writes or erases, and a list of them; a plan that has none.
-use Rattle.std.specs.Prelude.{ℕ, ◌+◌, ◌-◌, ◌*◌, cond, List, [], ◌∷◌, map, ltb, Option, Some, None}
+use Rattle.std.specs.Prelude.{ℕ, ◌+◌, ◌-◌, ◌*◌, cond, List, [], ◌∷◌, map, ltb, Option, Some, None, Err}
 use Rattle.std.proofs.lemmas.List.Edits.{sets}
 use Rattle.chip.specs.Chip.{written}
 use Rattle.chip.specs.Geometry.{erase_region, numbers}
 use Rattle.format.specs.Layout.{record_length, record_bytes, kill_place, kill_length, kill_bytes}
 use Rattle.lookup.specs.Gather.{unseen}
 use Rattle.refusals.specs.declared.Refusal.{Refusal}
-use Rattle.plans.specs.declared.Answer.{Answer}
 use Rattle.plans.specs.declared.Aim.{Aim}
 use Rattle.plans.specs.declared.Lent.{Lent}
 use Rattle.plans.specs.declared.Edit.{Edit}
 use Rattle.plans.specs.declared.Edits.{Edits}
 use Rattle.plans.specs.declared.Then.{Then}
 use Rattle.plans.specs.declared.Plan.{Plan}
+use Rattle.plans.specs.Answers.{Answer}
 
 -- What is lent.
 
@@ -117,7 +117,7 @@ ends answer = follows (Then.Ends answer)
 
 -- R7.3: a refusal, with nothing written
 abbrev pub refuses : Refusal → Plan
-refuses w = ends (Answer.Refused w)
+refuses w = ends (Err w)
 
 -- R5.1: a lookup begins, at the first region of the probe order
 abbrev pub look : Aim → Then

@@ -11,7 +11,7 @@ pub fn starts_anew(answer: Answer) -> bool
 {
     matches!(
         answer,
-        Answer::Refused(
+        Err(
             Refusal::KeyNotFound
                 | Refusal::UnsupportedVersion
                 | Refusal::CorruptData

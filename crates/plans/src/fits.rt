@@ -36,7 +36,7 @@ fn lent_for(aim: Aim, lent: Lent) -> bool
 fn answer_rests(first: Option<Edit>, answer: Answer) -> bool
     ensures { result ≡ answer_rests first answer }
 {
-    first.is_none() || !matches!(answer, Answer::Refused(_))
+    first.is_none() || answer.is_ok()
 }
 
 // Whether an operation may rest before what follows.

@@ -11,22 +11,25 @@ ghost use Rattle.std.specs.Prelude.{◌≡◌};
 ghost use Rattle.plans.specs.Writes.{value_lent, buffer_lent};
 
 pub use answers::starts_anew;
+pub use display::Printed;
 pub use fits::plan_fits;
 use format::{Record, Removal};
 use lookup::Seen;
 use refusals::Refusal;
 pub use writes::{ends_with, first_of, refuse, rest_of};
 
-// R7.1: what a call answers.
+// R7.1: what a call that is not refused answers.
 #[derive(Clone, Copy, PartialEq, Eq)]
-pub enum Answer {
+pub enum Success {
     // With the value's length, 0 from initialise.
     Complete(usize),
     Written,
     // With the bytes freed.
     Freed(usize),
-    Refused(Refusal),
 }
+
+// R7.1: what a call answers.
+pub type Answer = Result<Success, Refusal>;
 
 // R5.1: what a lookup is for: get (R5.2), append (R5.3), initialise's too, a removal (R5.5, R5.6), or the get of initialise (R5.9).
 #[derive(Clone, Copy)]

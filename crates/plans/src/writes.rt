@@ -53,5 +53,5 @@ pub fn ends_with(answer: Answer) -> Plan
 pub fn refuse(refusal: Refusal) -> Plan
     ensures { result ≡ refuses refusal }
 {
-    ends_with(Answer::Refused(refusal))
+    ends_with(Err(refusal))
 }

@@ -5,10 +5,11 @@ use mathlib.Core.Path.{◌≡◌, refl}
 use mathlib.Core.Bool.{cond}
 use lib.Dec.{eqb}
 use lib.ListN.{get_or}
+use Rattle.std.specs.Prelude.{Ok, Err}
 use Rattle.refusals.specs.declared.Refusal.{Refusal}
 use Rattle.refusals.specs.Refusals.{number, value_of}
-use Rattle.plans.specs.declared.Answer.{Answer}
-use Rattle.plans.specs.declared.Answer.TheVariants.{Complete, Written, Freed, Refused}
+use Rattle.plans.specs.declared.Success.TheVariants.{Complete, Written, Freed}
+use Rattle.plans.specs.Answers.{Answer}
 use Rattle.running.specs.declared.Request.{Request}
 use Rattle.replies.specs.declared.CAnswer.{CAnswer}
 use Rattle.replies.specs.declared.CRequest.{CRequest}
@@ -45,16 +46,16 @@ refusal_back Refusal.FlashFailed = refl
 
 abbrev pub answer_in : CAnswer → Answer
 answer_in a =
-    cond (eqb a.kind 1) (Complete a.value)
-    (cond (eqb a.kind 2) Written
-    (cond (eqb a.kind 3) (Freed a.value)
-    (Refused (refusal_in a.refusal a.value))))
+    cond (eqb a.kind 1) (Ok (Complete a.value))
+    (cond (eqb a.kind 2) (Ok Written)
+    (cond (eqb a.kind 3) (Ok (Freed a.value))
+    (Err (refusal_in a.refusal a.value))))
 
 pub answer_back : (a : Answer) → answer_in (answer_numbers a) ≡ a
-answer_back (Complete len) = refl
-answer_back Written = refl
-answer_back (Freed bytes) = refl
-answer_back (Refused w) = λ i. Refused (refusal_back w i)
+answer_back (Ok (Complete len)) = refl
+answer_back (Ok Written) = refl
+answer_back (Ok (Freed bytes)) = refl
+answer_back (Err w) = λ i. Err (refusal_back w i)
 
 abbrev pub request_in : CRequest → Request
 request_in q =

@@ -3,7 +3,7 @@ ghost use Rattle.std.specs.Prelude.{◌≡◌};
 ghost use Rattle.replies.specs.Answers.{answer_numbers, service_numbers, request_numbers};
 
 use crate::{CAnswer, CRequest};
-use plans::Answer;
+use plans::{Answer, Success};
 use running::Request;
 
 // R12.1: an answer in numbers.
@@ -11,22 +11,22 @@ pub fn answer_numbers(answer: Answer) -> CAnswer
     ensures { result ≡ answer_numbers answer }
 {
     match answer {
-        Answer::Complete(len) => CAnswer {
+        Ok(Success::Complete(len)) => CAnswer {
             kind: 1,
             refusal: 0,
             value: len,
         },
-        Answer::Written => CAnswer {
+        Ok(Success::Written) => CAnswer {
             kind: 2,
             refusal: 0,
             value: 0,
         },
-        Answer::Freed(bytes) => CAnswer {
+        Ok(Success::Freed(bytes)) => CAnswer {
             kind: 3,
             refusal: 0,
             value: bytes,
         },
-        Answer::Refused(refusal) => CAnswer {
+        Err(refusal) => CAnswer {
             kind: 0,
             refusal: refusal.number(),
             value: refusal.value(),

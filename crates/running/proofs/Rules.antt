@@ -6,7 +6,7 @@ use mathlib.Core.Path.{◌≡◌, refl, subst}
 use mathlib.Core.Bool.{Bool, true, false, not, cond}
 use lib.Dec.{ltb}
 use borrow.Author.Tests.{ltb-false, lt-ltb, le-leb}
-use Rattle.std.specs.Prelude.{Result, Ok, Err, Option, Some, None}
+use Rattle.std.specs.Prelude.{Result, Ok, Err, None}
 use Rattle.chip.specs.Geometry.{Shape, sized}
 use Rattle.chip.proofs.Image.{sized_shape}
 use Rattle.probe.specs.Probe.{allowed_key}

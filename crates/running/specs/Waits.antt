@@ -1,8 +1,7 @@
 -- What an operation waits for, computed from what is left of its plan, and the request that it makes of the host.
-use Rattle.std.specs.Prelude.{ℕ, ◌+◌, ◌*◌, false, cond, get_or, Option, Some, None}
+use Rattle.std.specs.Prelude.{ℕ, ◌+◌, ◌*◌, false, cond, get_or, Option, Some, None, Err}
 use Rattle.probe.specs.Probe.{probes}
 use Rattle.refusals.specs.declared.Refusal.{Refusal}
-use Rattle.plans.specs.declared.Answer.TheVariants.{Refused}
 use Rattle.plans.specs.declared.Edit.{Edit}
 use Rattle.plans.specs.declared.Then.{Then}
 use Rattle.plans.specs.declared.Plan.{Plan}
@@ -21,7 +20,7 @@ abbrev pub wait_next : ℕ → ℕ → Then → Wait
 wait_next key n (Then.Ends answer) = Wait.Over answer
 wait_next key n (Then.Seek aim i seen) = Wait.Read (get_or (probes key n) i 0)
 wait_next key n (Then.Sweep r k) = Wait.Read r
-wait_next key n (Then.Gives r x anew) = Wait.Over (Refused Refusal.BadCall)
+wait_next key n (Then.Gives r x anew) = Wait.Over (Err Refusal.BadCall)
 
 -- R8.4: one service at a time: what is left to write or erase comes before what follows.
 abbrev pub wait_first : ℕ → ℕ → Option Edit → Then → Wait
@@ -46,7 +45,7 @@ request_edit s len (Edit.Erase r) = Request.Erase r
 -- R8.4: the request for what is waited for, or the answer. Before the first step there is none: the BadCall there does not come, since a step takes
 -- the request of the operation that it has led on, which is fresh no more (`with_plan`).
 abbrev pub request_for : ℕ → ℕ → Wait → Request
-request_for s len Wait.Begin = Request.Answers (Refused Refusal.BadCall)
+request_for s len Wait.Begin = Request.Answers (Err Refusal.BadCall)
 request_for s len (Wait.Read r) = Request.Read r
 request_for s len (Wait.Edit e) = request_edit s len e
 request_for s len (Wait.Over answer) = Request.Answers answer

@@ -3,6 +3,7 @@ ghost use Rattle.std.specs.Prelude.{Some};
 ghost use Rattle.running.specs.Requests.{text};
 
 use crate::Request;
+use plans::Printed;
 use std::fmt;
 
 // A service with its places; the answer where none is asked for.
@@ -14,7 +15,7 @@ impl fmt::Display for Request {
             Request::Read { region } => write!(f, "read {region}"),
             Request::Write { from, to, place } => write!(f, "write {from}..{to} at {place}"),
             Request::Erase { region } => write!(f, "erase {region}"),
-            Request::Answers(answer) => write!(f, "{answer}"),
+            Request::Answers(answer) => write!(f, "{}", Printed(answer)),
         }
     }
 }

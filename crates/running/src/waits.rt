@@ -8,7 +8,7 @@ ghost use Rattle.running.specs.Waits.{wait_of, request_edit, request_of};
 
 use crate::{Request, RuledOp, Wait};
 use format::{Record, Removal};
-use plans::{Answer, Edit, Then};
+use plans::{Edit, Then};
 use refusals::Refusal;
 
 // R8.4, R8.5: what an operation waits for. The rule lets none wait before a value that is to be given: BadCall does not come.
@@ -38,7 +38,7 @@ pub fn wait_of(ruled: RuledOp) -> Wait
             region: _,
             rec: _,
             anew: _,
-        } => Wait::Over(Answer::Refused(Refusal::BadCall)),
+        } => Wait::Over(Err(Refusal::BadCall)),
     }
 }
 
@@ -100,7 +100,7 @@ pub fn request_of(ruled: RuledOp) -> Request
     let lent = op.lent;
     let wait = wait_of(ruled);
     match wait {
-        Wait::Begin => Request::Answers(Answer::Refused(Refusal::BadCall)),
+        Wait::Begin => Request::Answers(Err(Refusal::BadCall)),
         Wait::Read(region) => Request::Read { region },
         Wait::Edit(edit) => request_edit(op.s, op.n, lent.value(), edit),
         Wait::Over(answer) => Request::Answers(answer),

@@ -10,7 +10,7 @@ use lib.Dec.{eqb}
 use lib.ListN.{length, take}
 use borrow.Author.Tests.{eq-eqb}
 use Rattle.lookup.proofs.Scan.{room_cases}
-use Rattle.std.specs.Prelude.{Result, Ok, Option, None}
+use Rattle.std.specs.Prelude.{Result, Ok, Option, None, Err}
 use Rattle.chip.specs.Chip.{erased}
 use Rattle.chip.specs.Every.{Every}
 use Rattle.chip.specs.Geometry.{sized, geometry, Fits, region_of, erase_region, numbers}
@@ -25,14 +25,13 @@ use Rattle.lookup.specs.declared.Looked.{Looked}
 use Rattle.lookup.specs.declared.Hit.{Hit}
 use Rattle.refusals.specs.Refusals.{refusal_of, refusal_under, first_refusal}
 use Rattle.lookup.specs.Turns.{lookup_in, hit_by, hit_after, hit_of, hits}
-use Rattle.plans.specs.declared.Answer.{Answer}
 use Rattle.plans.specs.declared.Aim.{Aim}
 use Rattle.plans.specs.declared.Lent.{Lent}
 use Rattle.plans.specs.declared.Edit.{Edit}
 use Rattle.plans.specs.declared.Edits.{Edits}
 use Rattle.plans.specs.declared.Then.{Then}
 use Rattle.plans.specs.declared.Plan.{Plan}
-use Rattle.plans.specs.Answers.{starts_anew}
+use Rattle.plans.specs.Answers.{starts_anew, Answer}
 use Rattle.plans.specs.Writes.{value_lent, listed, applied, follows, look, ends}
 use Rattle.plans.specs.Fits.{rests}
 use Rattle.planning.specs.Planning.{need_of, anew, place_plan, append_plan, remove_plan, plan}
@@ -213,7 +212,7 @@ module _ (s n key : ℕ) (value image buffer : List ℕ) (f : Fits image s n) wh
   renews false answer = over refl
 
   -- a lookup that finds no record is one of refusals 4, 7 and 8
-  fault_renews : (g : Fault) → starts_anew (Answer.Refused (refusal_of g)) ≡ true
+  fault_renews : (g : Fault) → starts_anew (Err (refusal_of g)) ≡ true
   fault_renews Fault.UnsupportedVersion = refl
   fault_renews Fault.CorruptData = refl
 

@@ -9,10 +9,10 @@ use mathlib.Core.List.{List, [], ◌∷◌}
 use lib.ListN.{length, take, replicate}
 use Rattle.std.specs.Prelude.{Option, Some}
 use Rattle.chip.specs.Geometry.{region_of}
-use Rattle.plans.specs.declared.Answer.{Answer}
 use Rattle.plans.specs.declared.Lent.{Lent}
 use Rattle.plans.specs.declared.Edit.{Edit}
 use Rattle.plans.specs.declared.Plan.{Plan}
+use Rattle.plans.specs.Answers.{Answer}
 use Rattle.plans.specs.Writes.{value_lent, edited, first}
 use Rattle.running.specs.declared.Reply.{Reply}
 use Rattle.running.specs.declared.Wait.{Wait}

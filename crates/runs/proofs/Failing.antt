@@ -4,8 +4,8 @@ use Prim.Native.Nat.{ℕ}
 use mathlib.Core.Path.{◌≡◌, refl}
 use mathlib.Core.Bool.{true}
 use mathlib.Core.List.{List}
+use Rattle.std.specs.Prelude.{Err}
 use Rattle.refusals.specs.declared.Refusal.{Refusal}
-use Rattle.plans.specs.declared.Answer.TheVariants.{Refused}
 use Rattle.plans.specs.declared.Lent.{Lent}
 use Rattle.running.specs.declared.Reply.{Reply}
 use Rattle.running.specs.declared.Request.{Request}
@@ -16,7 +16,7 @@ use Rattle.runs.proofs.Rests.{fit, meanwhile, good_meanwhile}
 use Rattle.runs.proofs.Comes.{Rested, at}
 
 pub failing : {s n key : ℕ} {lent : Lent} {value bytes : List ℕ} {before : Host} → Rested s n key lent value bytes before → asks before.request ≡ true → (brought : List ℕ)
-    → ((failed brought before).request ≡ Request.Answers (Refused Refusal.FlashFailed))
+    → ((failed brought before).request ≡ Request.Answers (Err Refusal.FlashFailed))
     × ((failed brought before).image ≡ before.image)
     × ((failed brought before).region ≡ region_meanwhile before.request brought before.region)
     × ((failed brought before).buffer ≡ before.buffer)

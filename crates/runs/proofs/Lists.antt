@@ -7,7 +7,7 @@ use mathlib.Core.Path.{◌≡◌, refl, sym, ◌∙◌, ap, subst}
 use mathlib.Core.Bool.{Bool, true, false, cond}
 use mathlib.Core.List.{List, [], ◌∷◌, ◌++◌, map, append-nil, Memᴰ}
 use lib.ListN.{length}
-use Rattle.std.specs.Prelude.{Result, Option, Some, None}
+use Rattle.std.specs.Prelude.{Result, Option, Some, None, Ok}
 use Rattle.chip.specs.Chip.{erased}
 use Rattle.chip.specs.Geometry.{Fits, region_of, erase_region, numbers}
 use Rattle.chip.proofs.Image.{region_erased_other, fits_geometry, fits_blank}
@@ -27,12 +27,11 @@ use Rattle.lookup.specs.Gather.{unseen, noted, some_room}
 use Rattle.lookup.specs.Turns.{lookup_in, read_from, regions_read, hit_by}
 use Rattle.lookup.specs.Words.{first_room, Passed}
 use Rattle.lookup.proofs.Scan.{gathered_first, room_cases}
-use Rattle.plans.specs.declared.Answer.{Answer}
-use Rattle.plans.specs.declared.Answer.TheVariants.{Complete, Written, Freed}
+use Rattle.plans.specs.declared.Success.TheVariants.{Complete, Written, Freed}
 use Rattle.plans.specs.declared.Aim.{Aim}
 use Rattle.sweeping.specs.declared.Verdict.{Verdict}
 use Rattle.sweeping.specs.Sweeps.{verdict_on, verdict}
-use Rattle.plans.specs.Answers.{refusal, starts_anew}
+use Rattle.plans.specs.Answers.{refusal, starts_anew, Answer}
 use Rattle.planning.specs.Planning.{place_plan, append_plan, remove_plan}
 use Rattle.store.specs.Read.{get_of}
 use Rattle.store.specs.Write.{Done, append_of, initialise_of}
@@ -125,7 +124,7 @@ module _ (image : List ℕ) (s n key : ℕ) where
   abbrev room : List ℕ → Option ℕ
   room value = Some (record_length (length value))
 
-  pub append_list : (value : List ℕ) → answer_of (append key value) image s n ≡ Written
+  pub append_list : (value : List ℕ) → answer_of (append key value) image s n ≡ Ok Written
       → (r : ℕ) × (o : ℕ) × FirstRoom image s (record_length (length value)) (probes key n) r o
       × (services (append key value) image s n ≡ map Request.Read (probes key n) ++ Request.Write o (o + record_length (length value)) (r * s + o) ∷ [])
   append_list value h = go (appending image s n key value reads)
@@ -171,7 +170,7 @@ module _ (image : List ℕ) (s n key : ℕ) where
           ap (λ (t : Option Room). edits s (length value) (place_plan t)) place ∙ placed seen e (first_room (record_length (length value)) s image (probes key n)) refl
 
   -- The removals.
-  pub remove_list : (how : Removal) → answer_of (remove how key) image s n ≡ Written
+  pub remove_list : (how : Removal) → answer_of (remove how key) image s n ≡ Ok Written
       → (r : ℕ) × (x : Record) × (d : Decides image s key (probes key n) r (Event.Live x))
       × (services (remove how key) image s n ≡ map Request.Read (d.before ++ r ∷ []) ++ Request.Write (kill_place how x) (kill_place how x + kill_length how x) (r * s + kill_place how x) ∷ [])
   remove_list how h = go (removing image s n how key reads)
@@ -215,7 +214,7 @@ module _ (image : List ℕ) (s n key : ℕ) where
   by_anew : Reads image s n (initialise key) → {t : Bool} → starts_anew (get_of image s n key []).answer ≡ t → Listed t
   by_anew h e = subst Listed e (unfold_initialise image s n key h)
 
-  pub initialise_list : (len : ℕ) → answer_of (initialise key) image s n ≡ Complete len → services (initialise key) image s n ≡ services (get key []) image s n
+  pub initialise_list : (len : ℕ) → answer_of (initialise key) image s n ≡ Ok (Complete len) → services (initialise key) image s n ≡ services (get key []) image s n
   initialise_list len h = by_anew fine (go (starts_anew (get_of image s n key []).answer) refl) ∙ append-nil (services (get key []) image s n)
     where
       fine : Reads image s n (initialise key)
@@ -224,11 +223,11 @@ module _ (image : List ℕ) (s n key : ℕ) where
       go : (t : Bool) → starts_anew (get_of image s n key []).answer ≡ t → starts_anew (get_of image s n key []).answer ≡ false
       go false e = e
       go true e =
-          let blank : answer_of (initialise key) image s n ≡ Written =
+          let blank : answer_of (initialise key) image s n ≡ Ok Written =
           ap (λ (d : Done). d.answer) (initialise_by_lem true e) ∙ ap (λ (d : Done). d.answer) (blank_append fine.fits.shape key fine.key_good) in
           absurd (let z : ◌≡◌ {A = ℕ} 0 1 = cc in omega arith)
 
-  pub initialise_anew_list : answer_of (initialise key) image s n ≡ Written
+  pub initialise_anew_list : answer_of (initialise key) image s n ≡ Ok Written
       → services (initialise key) image s n ≡ services (get key []) image s n ++ (map Request.Erase (numbers 0 n) ++ services (append key []) (erased (n * s)) s n)
   initialise_anew_list h = by_anew fine (go (starts_anew (get_of image s n key []).answer) refl) ∙ ap (λ (l : List Request). services (get key []) image s n ++ l) anew_list
     where
@@ -236,13 +235,13 @@ module _ (image : List ℕ) (s n key : ℕ) where
       fine = reads_if image s n (initialise key) (ap refusal h)
 
       -- its get answers Complete or refuses
-      completes : {a : Answer} → Succeeds (get key []) a → a ≡ Written → ⊥
+      completes : {a : Answer} → Succeeds (get key []) a → a ≡ Ok Written → ⊥
       completes Succeeds.get_completes q = let z : ◌≡◌ {A = ℕ} 0 1 = cc in omega arith
 
       go : (t : Bool) → starts_anew (get_of image s n key []).answer ≡ t → starts_anew (get_of image s n key []).answer ≡ true
       go true e = e
       go false e =
-          let answer : (get_of image s n key []).answer ≡ Written = sym (ap (λ (d : Done). d.answer) (initialise_by_lem false e)) ∙ h in
+          let answer : (get_of image s n key []).answer ≡ Ok Written = sym (ap (λ (d : Done). d.answer) (initialise_by_lem false e)) ∙ h in
           absurd (completes (succeeds image s n (get key []) (ap refusal answer)) answer)
 
       blank_reads : Reads (erased (n * s)) s n (append key [])
@@ -321,7 +320,7 @@ collect_bad_list {f} image s n fits b =
     rw (fits_geometry fits)
     (subst (λ (q : ℕ). (qs : List Request) × Sweeps s image (numbers 0 r) qs × (collect_services s image (numbers 0 n) ≡ qs ++ Request.Read q ∷ [])) (zero-add r) l)
 
-pub collect_list : (image : List ℕ) (s n bytes : ℕ) → answer_of collect image s n ≡ Freed bytes → Sweeps s image (numbers 0 n) (services collect image s n)
+pub collect_list : (image : List ℕ) (s n bytes : ℕ) → answer_of collect image s n ≡ Ok (Freed bytes) → Sweeps s image (numbers 0 n) (services collect image s n)
 unfolding services
 collect_list image s n bytes h =
     let fits = (reads_if image s n collect (ap refusal h)).fits in

@@ -15,9 +15,7 @@ use Rattle.format.specs.Layout.{edition, largest_value}
 use Rattle.refusals.specs.declared.Refusal.{Refusal}
 use Rattle.refusals.specs.Refusals.{refusal_under, first_refusal}
 use Rattle.lookup.specs.Turns.{hit_after, hit_of}
-use Rattle.plans.specs.declared.Answer.{Answer}
-use Rattle.plans.specs.declared.Answer.TheVariants.{Refused}
-use Rattle.plans.specs.Answers.{starts_anew}
+use Rattle.plans.specs.Answers.{starts_anew, Answer}
 use Rattle.plans.specs.Writes.{value_lent, applied}
 use Rattle.store.specs.Read.{got_by, get_of}
 use Rattle.store.specs.Write.{refused, append_after, append_of, remove_by, remove_of, initialise_by, initialise_of}
@@ -33,16 +31,16 @@ use Rattle.runs.proofs.Comes.{Out, out}
 use Rattle.runs.proofs.Calls.{leaves, out_of, first_same}
 
 -- refusals 1, 2 and 3 are handed back
-first_kept : (image : List ℕ) (s n key len : ℕ) (w : Refusal) → first_refusal image s n key len ≡ Err w → starts_anew (Refused w) ≡ false
+first_kept : (image : List ℕ) (s n key len : ℕ) (w : Refusal) → first_refusal image s n key len ≡ Err w → starts_anew (Err w) ≡ false
 unfolding first_refusal
 first_kept image s n key len w = go (geometry image s n) (allowed_key key) (ltb (largest_value edition) len)
   where
     go : (a b c : Bool)
         → cond (not a) (Err Refusal.BadGeometry) (cond (not b) (Err Refusal.BadKey) (cond c (Err Refusal.ObjectTooLarge) (Ok (tt {0})))) ≡ Err w
-        → starts_anew (Refused w) ≡ false
-    go false b c h = ap (λ (w : Refusal). starts_anew (Refused w)) (let e : w ≡ Refusal.BadGeometry = cc in e)
-    go true false c h = ap (λ (w : Refusal). starts_anew (Refused w)) (let e : w ≡ Refusal.BadKey = cc in e)
-    go true true true h = ap (λ (w : Refusal). starts_anew (Refused w)) (let e : w ≡ Refusal.ObjectTooLarge = cc in e)
+        → starts_anew (Err w) ≡ false
+    go false b c h = ap (λ (w : Refusal). starts_anew (Err w)) (let e : w ≡ Refusal.BadGeometry = cc in e)
+    go true false c h = ap (λ (w : Refusal). starts_anew (Err w)) (let e : w ≡ Refusal.BadKey = cc in e)
+    go true true true h = ap (λ (w : Refusal). starts_anew (Err w)) (let e : w ≡ Refusal.ObjectTooLarge = cc in e)
     go true true false h = absurd (let z : ◌≡◌ {A = ℕ} 0 1 = cc in omega arith)
 
 -- so that initialise starts nothing anew
@@ -63,7 +61,7 @@ module _ (image : List ℕ) (s n : ℕ) (size : length image ≡ n * s) (w : Ref
   refuses op (Ok u) h = absurd (let z : ◌≡◌ {A = ℕ} 0 1 = cc in omega arith)
   refuses op (Err v) h = cc
 
-  got_refused : (key : ℕ) (buffer : List ℕ) → first_refusal image s n key 0 ≡ Err w → get_of image s n key buffer ≡ record { answer = Refused w; buffer = buffer }
+  got_refused : (key : ℕ) (buffer : List ℕ) → first_refusal image s n key 0 ≡ Err w → get_of image s n key buffer ≡ record { answer = Err w; buffer = buffer }
   unfolding get_of hit_of
   got_refused key buffer e = ap (λ (c : Result (Unit {0}) Refusal). got_by s image buffer (hit_after image s n key c)) e
 
@@ -82,7 +80,7 @@ module _ (image : List ℕ) (s n : ℕ) (size : length image ≡ n * s) (w : Ref
 
   refused_by_lem : (c : Call) (buffer : List ℕ) → start_refusal s n (key_carried c) (value_lent (lent_of c)) ≡ Err w
       → first_refusal image s n (key_carried c) (value_lent (lent_of c)) ≡ Err w
-      → listed (services c image s n) (out_of c image s n buffer) ≡ listed [] (out (Refused w) image buffer)
+      → listed (services c image s n) (out_of c image s n buffer) ≡ listed [] (out (Err w) image buffer)
   unfolding services append_of remove_of hit_of collect_of initialise_of geometry applied
   refused_by_lem (get key same) buffer q e = asks_none _ e (λ i. out (got_refused key same e i).answer image (got_refused key buffer e i).buffer)
   refused_by_lem (append key value) buffer q e =
@@ -93,15 +91,15 @@ module _ (image : List ℕ) (s n : ℕ) (size : length image ≡ n * s) (w : Ref
       let (unsized, why) = collect_refused q in
       ap (λ (t : Bool). listed (cond t (collect_services s image (numbers 0 n)) []) (leaves (cond t (collect_in s image 0 (numbers 0 n)) (refused Refusal.BadGeometry image)) buffer))
       (ap (λ (t : Bool). t && eqb (length image) (n * s)) unsized)
-      ∙ ap (λ (w : Refusal). listed [] (out (Refused w) image buffer)) (sym why)
+      ∙ ap (λ (w : Refusal). listed [] (out (Err w) image buffer)) (sym why)
   refused_by_lem (initialise key) buffer q e =
-      let a : (get_of image s n key []).answer ≡ Refused w = λ i. (got_refused key [] e i).answer in
+      let a : (get_of image s n key []).answer ≡ Err w = λ i. (got_refused key [] e i).answer in
       asks_none _ e
       (ap (λ (answer : Answer). leaves (initialise_by image s n key answer) buffer) a
       ∙ ap (λ (t : Bool). leaves (cond t (append_of (erased (n * s)) s n key []) (refused w image)) buffer) (first_kept image s n key 0 w e))
 
   pub refused_so : (c : Call) (buffer : List ℕ) → start_of c s n ≡ Err w
-      → listed (services c image s n) (out_of c image s n buffer) ≡ listed [] (out (Refused w) image buffer)
+      → listed (services c image s n) (out_of c image s n buffer) ≡ listed [] (out (Err w) image buffer)
   refused_so c buffer h =
       let q = refuses (fresh_of c s n) (start_refusal s n (key_carried c) (value_lent (lent_of c))) (sym (starts_so c s n) ∙ h) in
       refused_by_lem c buffer q (first_same image s n (key_carried c) (value_lent (lent_of c)) size ∙ q)

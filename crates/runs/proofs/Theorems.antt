@@ -24,7 +24,7 @@ use Rattle.format.specs.declared.Removal.{Removal}
 use Rattle.format.specs.Layout.{record_length, kill_place, kill_length}
 use Rattle.region.specs.declared.Event.{Event}
 use Rattle.refusals.specs.declared.Refusal.{Refusal}
-use Rattle.plans.specs.declared.Answer.TheVariants.{Refused, Complete, Written, Freed}
+use Rattle.plans.specs.declared.Success.TheVariants.{Complete, Written, Freed}
 use Rattle.plans.specs.Answers.{refusal}
 use Rattle.store.specs.Read.{Got, get_of}
 use Rattle.store.specs.Write.{append_of, initialise_of}
@@ -110,7 +110,7 @@ module _ (c : Call) (image region value buffer : List ℕ) (s n : ℕ) (reads : 
   -- service was done, but for the bytes that a read may have brought, the image is as it was.
   pub fails_in_the_middle : (beats : List Beat) → asks (run beats).host.request ≡ true → (bytes : List ℕ)
       → let before = (run beats).host in
-      ((failed bytes before).request ≡ Request.Answers (Refused Refusal.FlashFailed))
+      ((failed bytes before).request ≡ Request.Answers (Err Refusal.FlashFailed))
       × ((failed bytes before).image ≡ before.image)
       × ((failed bytes before).region ≡ region_meanwhile before.request bytes before.region)
       × ((failed bytes before).buffer ≡ before.buffer)
@@ -123,7 +123,7 @@ module _ (c : Call) (image region value buffer : List ℕ) (s n : ℕ) (reads : 
 
 -- R7.2: a start that refuses, by 1, 2 or 3, runs nothing. The one-call form gives the same answer and changes nothing either.
 pub start_refuses : (c : Call) (image buffer : List ℕ) (s n : ℕ) (w : Refusal) → length image ≡ n * s → start_of c s n ≡ Err w
-    → (answer_of c image s n ≡ Refused w) × (image_after c image s n ≡ image) × (buffer_of c image s n buffer ≡ buffer) × (services c image s n ≡ [])
+    → (answer_of c image s n ≡ Err w) × (image_after c image s n ≡ image) × (buffer_of c image s n buffer ≡ buffer) × (services c image s n ≡ [])
 start_refuses c image buffer s n w size h =
     let e = refused_so image s n size w c buffer h in
     (ap (λ (o : Listed). o.leaving.answer) e, ap (λ (o : Listed). o.leaving.image) e, ap (λ (o : Listed). o.leaving.buffer) e, ap (λ (o : Listed). o.did) e)
@@ -150,7 +150,7 @@ pub get_services : (key : ℕ) (buffer image : List ℕ) (s n : ℕ) → Reads i
 get_services key buffer image s n h = Lists.get_list image s n key buffer h
 
 -- R9.2: append, reads of all N regions, then one write: where it answers Written. The write goes to the first region in probe order with room (R5.4).
-pub append_services : (key : ℕ) (value image : List ℕ) (s n : ℕ) → answer_of (append key value) image s n ≡ Written
+pub append_services : (key : ℕ) (value image : List ℕ) (s n : ℕ) → answer_of (append key value) image s n ≡ Ok Written
     → (r : ℕ) × (o : ℕ) × FirstRoom image s (record_length (length value)) (probes key n) r o
     × (services (append key value) image s n ≡ map Request.Read (probes key n) ++ Request.Write o (o + record_length (length value)) (r * s + o) ∷ [])
 append_services key value image s n h = Lists.append_list image s n key value h
@@ -162,7 +162,7 @@ pub append_refused_services : (key : ℕ) (value image : List ℕ) (s n : ℕ) �
 append_refused_services key value image s n r h = Lists.append_no_list image s n key value r h
 
 -- R9.3: invalidate and zeroise, get's reads, then one write: over the record that decided.
-pub removal_services : (how : Removal) (key : ℕ) (image : List ℕ) (s n : ℕ) → answer_of (remove how key) image s n ≡ Written
+pub removal_services : (how : Removal) (key : ℕ) (image : List ℕ) (s n : ℕ) → answer_of (remove how key) image s n ≡ Ok Written
     → (r : ℕ) × (x : Record) × (d : Decides image s key (probes key n) r (Event.Live x))
     × (services (remove how key) image s n ≡ map Request.Read (d.before ++ r ∷ []) ++ Request.Write (kill_place how x) (kill_place how x + kill_length how x) (r * s + kill_place how x) ∷ [])
 removal_services how key image s n h = Lists.remove_list image s n key how h
@@ -173,7 +173,7 @@ pub removal_refused_services : (how : Removal) (key : ℕ) (image : List ℕ) (s
 removal_refused_services how key image s n r h = Lists.remove_no_list image s n key how r h
 
 -- R9.4: collect, for each region in number order a read and, where it is to be erased, its erase.
-pub collect_services_lem : (image : List ℕ) (s n bytes : ℕ) → answer_of collect image s n ≡ Freed bytes → Sweeps s image (numbers 0 n) (services collect image s n)
+pub collect_services_lem : (image : List ℕ) (s n bytes : ℕ) → answer_of collect image s n ≡ Ok (Freed bytes) → Sweeps s image (numbers 0 n) (services collect image s n)
 collect_services_lem image s n bytes h = Lists.collect_list image s n bytes h
 
 -- R9.4: with a bad place, the list ends with the read of its region (R5.8).
@@ -182,12 +182,12 @@ pub collect_refused_services : {f : Fault} (image : List ℕ) (s n : ℕ) → Fi
 collect_refused_services image s n fits b = Lists.collect_bad_list image s n fits b
 
 -- R9.5: initialise that is Complete, get's reads alone;
-pub initialise_services : (key : ℕ) (image : List ℕ) (s n len : ℕ) → answer_of (initialise key) image s n ≡ Complete len
+pub initialise_services : (key : ℕ) (image : List ℕ) (s n len : ℕ) → answer_of (initialise key) image s n ≡ Ok (Complete len)
     → services (initialise key) image s n ≡ services (get key []) image s n
 initialise_services key image s n len h = Lists.initialise_list image s n key len h
 
 -- R9.5: and if it must erase, erases of all regions in number order, then append's services.
-pub initialise_anew_services : (key : ℕ) (image : List ℕ) (s n : ℕ) → answer_of (initialise key) image s n ≡ Written
+pub initialise_anew_services : (key : ℕ) (image : List ℕ) (s n : ℕ) → answer_of (initialise key) image s n ≡ Ok Written
     → services (initialise key) image s n ≡ services (get key []) image s n ++ (map Request.Erase (numbers 0 n) ++ services (append key []) (erased (n * s)) s n)
 initialise_anew_services key image s n h = Lists.initialise_anew_list image s n key h
 
@@ -230,7 +230,7 @@ bound_is_found {s} {n} {image} w key value b events p buffer region lent l long 
     held : WellFormed s n later × Bound s n later key value
     held = events_hold s n key value events image w b p
 
-    found : get_of later s n key buffer ≡ record { answer = Complete (length value); buffer = value ++ drop (length value) buffer }
+    found : get_of later s n key buffer ≡ record { answer = Ok (Complete (length value)); buffer = value ++ drop (length value) buffer }
     found = get_finds held.0 key value buffer held.1 l
 
     reads : Reads later s n (get key buffer)
@@ -244,7 +244,7 @@ bound_is_found {s} {n} {image} w key value b events p buffer region lent l long 
 
 -- R11.2, R11.8: a record that append has written is bound, and so is found;
 pub stored_is_found : {s n : ℕ} {image : List ℕ} → WellFormed s n image → (key : ℕ) (value : List ℕ) → key < 2 ^ 64 → Bytes value
-    → (append_of image s n key value).answer ≡ Written
+    → (append_of image s n key value).answer ≡ Ok Written
     → (events : List Happening) → SparesThrough s n key (append_of image s n key value).image events
     → (buffer region lent : List ℕ) → length value ≤ length buffer → length region ≡ s
     → Found s n (image_after_events s n events (append_of image s n key value).image) key value buffer region lent
@@ -253,7 +253,7 @@ stored_is_found w key value k v h events p buffer region lent l long =
     bound_is_found (stays_well_formed w (append key value) (Typed.typed_append k v)) key value bound events p buffer region lent l long
 
 -- R11.5, R11.8: so is the main key's own, of the empty value, after an initialise that wrote it.
-pub initialised_is_found : (image : List ℕ) (s n key : ℕ) → key < 2 ^ 64 → (initialise_of image s n key).answer ≡ Written
+pub initialised_is_found : (image : List ℕ) (s n key : ℕ) → key < 2 ^ 64 → (initialise_of image s n key).answer ≡ Ok Written
     → (events : List Happening) → SparesThrough s n key (initialise_of image s n key).image events
     → (buffer region lent : List ℕ) → length region ≡ s
     → Found s n (image_after_events s n events (initialise_of image s n key).image) key [] buffer region lent

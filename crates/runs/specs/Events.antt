@@ -1,7 +1,7 @@
 -- What may happen to a chip: calls in one go, and operations taken one service at a time, to their end, broken off before it, or ended by a service
 -- that fails and is not done.
 use Rattle.std.specs.Prelude.{ℕ, ◌≤◌, ◌≡◌, List, [], ◌∷◌, ◌++◌, length, take, drop, Result, Ok, Err}
-use Rattle.plans.specs.declared.Answer.TheVariants.{Complete}
+use Rattle.plans.specs.declared.Success.TheVariants.{Complete}
 use Rattle.store.specs.Read.{get_of}
 use Rattle.store.specs.Call.{Call, get, append, remove, collect, initialise, value_of, image_after}
 use Rattle.pinned.specs.Left.{erase_all}
@@ -79,11 +79,11 @@ pub data Left (c : Call) (image : List ℕ) (s n : ℕ) (image' : List ℕ) : Ty
 pub record Found (s n : ℕ) (image : List ℕ) (key : ℕ) (value buffer region lent : List ℕ) : Type 0 where
   pub well_formed : WellFormed s n image
   pub bound : Bound s n image key value
-  pub in_one_go : get_of image s n key buffer ≡ record { answer = Complete (length value); buffer = value ++ drop (length value) buffer }
+  pub in_one_go : get_of image s n key buffer ≡ record { answer = Ok (Complete (length value)); buffer = value ++ drop (length value) buffer }
   pub starts : start_of (get key buffer) s n ≡ Ok (fresh_of (get key buffer) s n)
   pub few : length (services (get key buffer) image s n) ≤ n
   pub answers : (beats : List Beat) → n ≤ readies beats
-      → (drive s beats (begun (fresh_of (get key buffer) s n) image region lent buffer)).host.request ≡ Request.Answers (Complete (length value))
+      → (drive s beats (begun (fresh_of (get key buffer) s n) image region lent buffer)).host.request ≡ Request.Answers (Ok (Complete (length value)))
   pub fills : (beats : List Beat) → n ≤ readies beats
       → (drive s beats (begun (fresh_of (get key buffer) s n) image region lent buffer)).host.buffer ≡ value ++ drop (length value) buffer
   pub leaves : (beats : List Beat) → n ≤ readies beats → (drive s beats (begun (fresh_of (get key buffer) s n) image region lent buffer)).host.image ≡ image

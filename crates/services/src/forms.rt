@@ -3,7 +3,6 @@ ghost use Rattle.std.specs.Prelude.{◌≤◌};
 
 use crate::call::Call;
 use host::{Host, Pace};
-use plans::Answer;
 use report::{Hex, Image};
 use running::{Reply, Request};
 use std::io;
@@ -92,6 +91,6 @@ fn run(rt: &impl Print, call: Call, mut host: Host<'_>) -> io::Result<Request> {
             println!(rt; "  answer: {}", last.request)?;
             Ok(last.request)
         }
-        Err(refusal) => Ok(Request::Answers(Answer::Refused(refusal))),
+        Err(refusal) => Ok(Request::Answers(Err(refusal))),
     }
 }

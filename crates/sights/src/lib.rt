@@ -8,7 +8,7 @@ ghost use Rattle.sights.specs.Sights.{found_numbers, empty_numbers, record_numbe
 use entries::{Entry, Place, Shown};
 use format::Record;
 use lending::Part;
-use plans::Answer;
+use plans::Success;
 use refusals::Refusal;
 use replies::CAnswer;
 
@@ -42,11 +42,11 @@ pub fn found_numbers(found: Result<Part, Refusal>) -> CFound
 {
     match found {
         Ok(Part { place, len }) => CFound {
-            answer: replies::answer_numbers(Answer::Complete(len)),
+            answer: replies::answer_numbers(Ok(Success::Complete(len))),
             place,
         },
         Err(refusal) => CFound {
-            answer: replies::answer_numbers(Answer::Refused(refusal)),
+            answer: replies::answer_numbers(Err(refusal)),
             place: 0,
         },
     }

@@ -5,8 +5,8 @@ use mathlib.Core.Path.{◌≡◌, refl}
 use mathlib.Core.Bool.{true}
 use mathlib.Core.List.{List}
 use lib.ListN.{length}
+use Rattle.std.specs.Prelude.{Err}
 use Rattle.refusals.specs.declared.Refusal.{Refusal}
-use Rattle.plans.specs.declared.Answer.TheVariants.{Refused}
 use Rattle.plans.specs.Fits.{plan_fits}
 use Rattle.plans.proofs.Facts.{plan_fits_lem, ends_fits}
 use Rattle.running.specs.declared.Op.{Op}
@@ -25,4 +25,4 @@ next_ruled op y region k l = record { shape = k.shape; key_good = k.key_good; fr
     go Reply.Begin = k.plan_good
     go Reply.Done = plan_fits_lem op.s op.n op.lent _ (given_rests op.s op.n op.lent region (advance op region) k.shape.n_least (advance_sound op region k l))
     go Reply.NotReady = k.plan_good
-    go Reply.Failed = plan_fits_lem op.s op.n op.lent _ (ends_fits op.s op.n op.lent (plan_of op k).value_short_lem (Refused Refusal.FlashFailed))
+    go Reply.Failed = plan_fits_lem op.s op.n op.lent _ (ends_fits op.s op.n op.lent (plan_of op k).value_short_lem (Err Refusal.FlashFailed))

@@ -1,7 +1,6 @@
 -- One step: what a running operation becomes, what it asks for, and what it leaves in the lent buffers.
-use Rattle.std.specs.Prelude.{ℕ, Bool, cond, List, length}
+use Rattle.std.specs.Prelude.{ℕ, Bool, cond, List, length, Err}
 use Rattle.refusals.specs.declared.Refusal.{Refusal}
-use Rattle.plans.specs.declared.Answer.TheVariants.{Refused}
 use Rattle.running.specs.declared.Op.{Op}
 use Rattle.running.specs.declared.Reply.{Reply}
 use Rattle.running.specs.declared.Request.{Request}
@@ -23,7 +22,7 @@ next_op op y region = with_plan op (next_plan op y region)
 unfoldable pub stepped : Op → Reply → List ℕ → List ℕ → List ℕ → Stepped
 stepped op y region value buffer =
     cond (fits_here op y region value buffer) (record { op = next_op op y region; request = request_of (next_op op y region) })
-    (record { op = op; request = Request.Answers (Refused Refusal.BadCall) })
+    (record { op = op; request = Request.Answers (Err Refusal.BadCall) })
 
 -- R8.6: the region buffer after a step. BadCall leaves it as it was (R6.11).
 unfoldable pub region_after : Op → Reply → List ℕ → List ℕ → List ℕ → List ℕ

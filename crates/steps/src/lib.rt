@@ -6,7 +6,6 @@
 ghost use Rattle.std.specs.Prelude.{◌≡◌};
 ghost use Rattle.steps.specs.Step.{stepped, region_after, buffer_after};
 
-use plans::Answer;
 use refusals::Refusal;
 use running::{Op, Reply, Request, RuledOp};
 
@@ -27,7 +26,7 @@ pub fn step(op: Op, reply: Reply, region: &mut [u8], value: &[u8], buffer: &mut 
     if !rule::call_fits(op, reply, region.len(), value.len(), buffer.len()) {
         return Stepped {
             op,
-            request: Request::Answers(Answer::Refused(Refusal::BadCall)),
+            request: Request::Answers(Err(Refusal::BadCall)),
         };
     }
     let before = RuledOp { op };

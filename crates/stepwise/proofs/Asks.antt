@@ -11,7 +11,7 @@ use lib.ListN.{take, drop, get_or}
 use Rattle.lookup.proofs.Scan.{room_cases}
 use Rattle.std.specs.declared.ops.ControlFlow.TheVariants.{Break, Continue}
 use Rattle.std.specs.declared.ops.ControlFlow.{ControlFlow}
-use Rattle.std.specs.Prelude.{Ok, Option, Some, None}
+use Rattle.std.specs.Prelude.{Ok, Option, Some, None, Err}
 use Rattle.probe.specs.Probe.{probes}
 use Rattle.format.specs.declared.Record.{Record}
 use Rattle.format.specs.declared.Removal.{Removal}
@@ -21,15 +21,13 @@ use Rattle.lookup.specs.declared.Room.{Room}
 use Rattle.lookup.specs.declared.Seen.{Seen}
 use Rattle.lookup.specs.declared.Looked.{Looked}
 use Rattle.lookup.specs.Turns.{turn_of}
-use Rattle.plans.specs.declared.Answer.{Answer}
-use Rattle.plans.specs.declared.Answer.TheVariants.{Refused}
 use Rattle.plans.specs.declared.Aim.{Aim}
 use Rattle.plans.specs.declared.Lent.{Lent}
 use Rattle.plans.specs.declared.Edit.{Edit}
 use Rattle.plans.specs.declared.Edits.{Edits}
 use Rattle.plans.specs.declared.Then.{Then}
 use Rattle.plans.specs.declared.Plan.{Plan}
-use Rattle.plans.specs.Answers.{starts_anew}
+use Rattle.plans.specs.Answers.{starts_anew, Answer}
 use Rattle.plans.specs.Writes.{value_lent, value_of, buffer_lent, bytes_of, first, rest, follows, ends}
 use Rattle.planning.specs.Planning.{need_of, anew, place_plan, plan}
 use Rattle.planning.proofs.Places.{by_place}
@@ -209,7 +207,7 @@ step_of {c} {s} op g o = go (fits_here op g.reply g.region g.value g.buffer)
     go : (t : Bool)
         → Of c s
         (cond {A = Stepped} t (record { op = next_op op g.reply g.region; request = request_of (next_op op g.reply g.region) })
-        (record { op = op; request = Request.Answers (Refused Refusal.BadCall) })).op
+        (record { op = op; request = Request.Answers (Err Refusal.BadCall) })).op
     go true = next_is_of g.reply g.region o
     go false = o
 
@@ -272,7 +270,7 @@ call_asks c s n op h gs y region value buffer = go (fits_here (after op gs) y re
     go : (t : Bool)
         → MayAsk s c
         (cond {A = Stepped} t (record { op = next_op (after op gs) y region; request = request_of (next_op (after op gs) y region) })
-        (record { op = after op gs; request = Request.Answers (Refused Refusal.BadCall) })).request
+        (record { op = after op gs; request = Request.Answers (Err Refusal.BadCall) })).request
     go true = of_asks (next_is_of y region (run_of c s n op h gs))
     go false = any_answers
 

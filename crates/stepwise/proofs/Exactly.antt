@@ -12,7 +12,7 @@ use Rattle.lookup.proofs.Scan.{room_cases}
 use Rattle.lookup.specs.declared.Seen.{Seen}
 use Rattle.std.specs.declared.ops.ControlFlow.TheVariants.{Break, Continue}
 use Rattle.std.specs.declared.ops.ControlFlow.{ControlFlow}
-use Rattle.std.specs.Prelude.{Option, Some, None}
+use Rattle.std.specs.Prelude.{Option, Some, None, Ok, Err}
 use Rattle.probe.specs.Probe.{probes}
 use Rattle.format.specs.declared.Record.{Record}
 use Rattle.format.specs.declared.Fault.{Fault}
@@ -24,15 +24,14 @@ use Rattle.lookup.specs.declared.Room.{Room}
 use Rattle.lookup.specs.declared.Looked.{Looked}
 use Rattle.refusals.specs.Refusals.{number, refusal_of}
 use Rattle.lookup.specs.Turns.{close, turn_of, refused_by}
-use Rattle.plans.specs.declared.Answer.{Answer}
-use Rattle.plans.specs.declared.Answer.TheVariants.{Complete, Refused}
+use Rattle.plans.specs.declared.Success.TheVariants.{Complete}
 use Rattle.plans.specs.declared.Aim.{Aim}
 use Rattle.plans.specs.declared.Lent.{Lent}
 use Rattle.plans.specs.declared.Edit.{Edit}
 use Rattle.plans.specs.declared.Then.{Then}
 use Rattle.plans.specs.declared.Plan.{Plan}
 use Rattle.sweeping.specs.declared.Verdict.{Verdict}
-use Rattle.plans.specs.Answers.{refusal, starts_anew}
+use Rattle.plans.specs.Answers.{refusal, starts_anew, Answer}
 use Rattle.plans.specs.Writes.{value_lent, buffer_lent, first, ends}
 use Rattle.plans.specs.Fits.{rests}
 use Rattle.planning.specs.Planning.{need_of, anew, place_plan, plan}
@@ -84,7 +83,7 @@ fault_low CorruptData = omega arith
 read_low : (region : List ℕ) (x : Record) (capacity : ℕ) → refusal (read_answer region x capacity) ≤ 10
 read_low region x capacity = go (ltb capacity (value_length x)) (check_sum_fits (bytes_in region x))
   where
-    go : (short good : Bool) → refusal (cond short (Refused (Refusal.BufferTooSmall (value_length x))) (cond good (Complete (value_length x)) (Refused Refusal.InvalidCheckSum))) ≤ 10
+    go : (short good : Bool) → refusal (cond short (Err (Refusal.BufferTooSmall (value_length x))) (cond good (Ok (Complete (value_length x))) (Err Refusal.InvalidCheckSum))) ≤ 10
     go true good = omega arith
     go false true = omega arith
     go false false = omega arith
@@ -231,7 +230,7 @@ module _ (op : Op) (y : Reply) (region value buffer : List ℕ) where
       go : (t : Bool) → fits_here op y region value buffer ≡ t
           → Refuses
           (request_refusal
-          (cond {A = Stepped} t (record { op = next_op op y region; request = request_of (next_op op y region) }) (record { op = op; request = Request.Answers (Refused Refusal.BadCall) })).request)
+          (cond {A = Stepped} t (record { op = next_op op y region; request = request_of (next_op op y region) }) (record { op = op; request = Request.Answers (Err Refusal.BadCall) })).request)
       go true h = let (k, _, _, apt) = fits_ruled op y (length region) (length value) (length buffer) h in fit h (next_replied op y region k apt)
       go false h = unfit h refl
 

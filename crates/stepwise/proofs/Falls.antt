@@ -24,14 +24,12 @@ use Rattle.lookup.specs.declared.Seen.{Seen}
 use Rattle.lookup.specs.declared.Looked.{Looked}
 use Rattle.lookup.specs.declared.Hit.{Hit}
 use Rattle.lookup.specs.Turns.{close, turn_of, hit_by}
-use Rattle.plans.specs.declared.Answer.{Answer}
-use Rattle.plans.specs.declared.Answer.TheVariants.{Refused}
 use Rattle.plans.specs.declared.Aim.{Aim}
 use Rattle.plans.specs.declared.Lent.{Lent}
 use Rattle.plans.specs.declared.Edit.{Edit}
 use Rattle.plans.specs.declared.Then.{Then}
 use Rattle.plans.specs.declared.Plan.{Plan}
-use Rattle.plans.specs.Answers.{starts_anew}
+use Rattle.plans.specs.Answers.{starts_anew, Answer}
 use Rattle.plans.specs.Writes.{value_lent, buffer_lent, listed, first, ends}
 use Rattle.plans.specs.Fits.{then_fits, rests}
 use Rattle.plans.proofs.Facts.{seek_facts, sweep_facts}
@@ -176,7 +174,7 @@ makes op y region value buffer = go (fits_here op y region value buffer) refl
   where
     go : (t : Bool) → fits_here op y region value buffer ≡ t
         → Makes op y region value buffer
-        (cond {A = Stepped} t (record { op = next_op op y region; request = request_of (next_op op y region) }) (record { op = op; request = Request.Answers (Refused Refusal.BadCall) })).op
+        (cond {A = Stepped} t (record { op = next_op op y region; request = request_of (next_op op y region) }) (record { op = op; request = Request.Answers (Err Refusal.BadCall) })).op
     go true h = let (k, l, b, r) = fits_ruled op y (length region) (length value) (length buffer) h in onward k l r
     go false h = nothing h
 

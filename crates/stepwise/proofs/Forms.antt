@@ -7,12 +7,12 @@ use mathlib.Core.Bool.{Bool, true, false, cond}
 use mathlib.Core.List.{List}
 use lib.Dec.{ltb}
 use Rattle.plans.specs.declared.Edit.{Edit}
-use Rattle.std.specs.Prelude.{Option}
-use Rattle.plans.specs.declared.Answer.{Answer}
-use Rattle.plans.specs.declared.Answer.TheVariants.{Freed}
+use Rattle.std.specs.Prelude.{Option, Ok}
+use Rattle.plans.specs.declared.Success.TheVariants.{Freed}
 use Rattle.plans.specs.declared.Lent.{Lent}
 use Rattle.plans.specs.declared.Then.{Then}
 use Rattle.plans.specs.declared.Plan.{Plan}
+use Rattle.plans.specs.Answers.{Answer}
 use Rattle.plans.specs.Fits.{rests}
 use Rattle.sweeping.specs.Sweeps.{swept_to}
 use Rattle.running.specs.declared.Wait.{Wait}
@@ -31,10 +31,10 @@ next_awaits key n (Then.Sweep r k) = a_region
 next_awaits key n (Then.Gives r x again) = no_more
 
 -- A sweep goes on with the next region, or has ended.
-pub by_swept : (P : Then → Type 0) (s n r k : ℕ) → P (Then.Sweep r k) → P (Then.Ends (Freed (k * s))) → P (swept_to s n r k)
+pub by_swept : (P : Then → Type 0) (s n r k : ℕ) → P (Then.Sweep r k) → P (Then.Ends (Ok (Freed (k * s)))) → P (swept_to s n r k)
 by_swept P s n r k on over = go (ltb r n)
   where
-    go : (t : Bool) → P (cond t (Then.Sweep r k) (Then.Ends (Freed (k * s))))
+    go : (t : Bool) → P (cond t (Then.Sweep r k) (Then.Ends (Ok (Freed (k * s)))))
     go true = on
     go false = over
 

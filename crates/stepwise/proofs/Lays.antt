@@ -26,13 +26,13 @@ use Rattle.lookup.specs.declared.Seen.{Seen}
 use Rattle.lookup.specs.declared.Looked.{Looked}
 use Rattle.lookup.specs.declared.Hit.{Hit}
 use Rattle.lookup.specs.Turns.{turn_of, hit_by}
-use Rattle.plans.specs.declared.Answer.{Answer}
-use Rattle.plans.specs.declared.Answer.TheVariants.{Complete, Refused}
+use Rattle.plans.specs.declared.Success.TheVariants.{Complete}
 use Rattle.plans.specs.declared.Aim.{Aim}
 use Rattle.plans.specs.declared.Lent.{Lent}
 use Rattle.plans.specs.declared.Edit.{Edit}
 use Rattle.plans.specs.declared.Then.{Then}
 use Rattle.plans.specs.declared.Plan.{Plan}
+use Rattle.plans.specs.Answers.{Answer}
 use Rattle.plans.specs.Writes.{value_lent, buffer_lent, value_of, start_of, bytes_of, size_of, laid_in, first, ends}
 use Rattle.plans.specs.Fits.{lent_nothing, lent_for, edit_fits, then_fits, rests}
 use Rattle.plans.proofs.Facts.{edit_facts, edits_facts, seek_facts}
@@ -61,7 +61,7 @@ use Rattle.stepwise.proofs.Starts.{inside}
 
 -- What a step asks for, and leaves in the region buffer and in get's: the call does not fit and all stays, or it fits.
 pub data Steps (op : Op) (y : Reply) (region value buffer : List ℕ) : Request → List ℕ → List ℕ → Type 0 where
-  unfit : Steps op y region value buffer (Request.Answers (Refused Refusal.BadCall)) region buffer
+  unfit : Steps op y region value buffer (Request.Answers (Err Refusal.BadCall)) region buffer
   fit : fits_here op y region value buffer ≡ true
       → Steps op y region value buffer (request_of (next_op op y region)) (laid_on y (next_op op y region) region value) (buffer_on op y region buffer)
 
@@ -73,7 +73,7 @@ steps op y region value buffer = go (fits_here op y region value buffer) refl
     go : (t : Bool) → fits_here op y region value buffer ≡ t
         → Steps op y region value buffer
         (cond {A = Stepped} t (record { op = next_op op y region; request = request_of (next_op op y region) })
-        (record { op = op; request = Request.Answers (Refused Refusal.BadCall) })).request
+        (record { op = op; request = Request.Answers (Err Refusal.BadCall) })).request
         (cond t (laid_on y (next_op op y region) region value) region)
         (cond t (buffer_on op y region buffer) buffer)
     go true h = fit h
@@ -221,7 +221,7 @@ Fills op region buffer p =
 answer_reads : (region : List ℕ) (x : Record) (capacity : ℕ) → Reads (read_answer region x capacity)
 answer_reads region x capacity = go (ltb capacity (value_length x)) (check_sum_fits (bytes_in region x))
   where
-    go : (short good : Bool) → Reads (cond short (Refused (Refusal.BufferTooSmall (value_length x))) (cond good (Complete (value_length x)) (Refused Refusal.InvalidCheckSum)))
+    go : (short good : Bool) → Reads (cond short (Err (Refusal.BufferTooSmall (value_length x))) (cond good (Ok (Complete (value_length x))) (Err Refusal.InvalidCheckSum)))
     go true good = too_short
     go false true = complete
     go false false = wrong_sum

@@ -14,8 +14,6 @@ use Rattle.chip.specs.Every.{Every}
 use Rattle.format.specs.declared.Removal.{Removal}
 use Rattle.format.specs.Layout.{record_bytes}
 use Rattle.refusals.specs.declared.Refusal.{Refusal}
-use Rattle.plans.specs.declared.Answer.{Answer}
-use Rattle.plans.specs.declared.Answer.TheVariants.{Refused}
 use Rattle.plans.specs.Writes.{refuses}
 use Rattle.store.specs.Call.{Call, append}
 use Rattle.running.specs.declared.Op.{Op}
@@ -39,6 +37,7 @@ use Rattle.stepwise.proofs.Misfits.{fits, fits_when, eleven_when, twelve_when}
 use Rattle.stepwise.proofs.Lays.{steps, steps_inside, steps_alter, steps_leave, leaves_rest, steps_fill}
 use Rattle.stepwise.proofs.Asks.{call_asks, append_lays_lent}
 use Rattle.stepwise.proofs.Falls.{at_start, falls, rises_never, none_left, taken_at_most, says, ends_always}
+use Rattle.plans.specs.Answers.{Answer}
 
 -- Starts.
 
@@ -68,7 +67,7 @@ unfolding stepped
 step_keeps op y region value buffer k = go (fits_here op y region value buffer) refl
   where
     go : (t : Bool) → fits_here op y region value buffer ≡ t
-        → rule (cond {A = Stepped} t (record { op = next_op op y region; request = request_of (next_op op y region) }) (record { op = op; request = Request.Answers (Refused Refusal.BadCall) })).op ≡ true
+        → rule (cond {A = Stepped} t (record { op = next_op op y region; request = request_of (next_op op y region) }) (record { op = op; request = Request.Answers (Err Refusal.BadCall) })).op ≡ true
     go true h = next_keeps op y region value buffer h
     go false h = k
 
@@ -124,7 +123,7 @@ buffer_altered_only op y region value buffer = steps_fill (steps op y region val
 
 -- R6.11: BadCall leaves the running operation as it was, and all buffers.
 pub bad_call_lem : (op : Op) (y : Reply) (region value buffer : List ℕ) → fits_here op y region value buffer ≡ false
-    → (stepped op y region value buffer ≡ record { op = op; request = Request.Answers (Refused Refusal.BadCall) })
+    → (stepped op y region value buffer ≡ record { op = op; request = Request.Answers (Err Refusal.BadCall) })
     × (region_after op y region value buffer ≡ region)
     × (buffer_after op y region value buffer ≡ buffer)
 unfolding stepped region_after buffer_after
@@ -142,7 +141,7 @@ not_ready op region value buffer h =
 
 -- R6.12: FlashFailed ends the operation, and alters no buffer.
 pub flash_failed : (op : Op) (region value buffer : List ℕ) → fits_here op Reply.Failed region value buffer ≡ true
-    → (stepped op Reply.Failed region value buffer ≡ record { op = with_plan op (refuses Refusal.FlashFailed); request = Request.Answers (Refused Refusal.FlashFailed) })
+    → (stepped op Reply.Failed region value buffer ≡ record { op = with_plan op (refuses Refusal.FlashFailed); request = Request.Answers (Err Refusal.FlashFailed) })
     × (region_after op Reply.Failed region value buffer ≡ region)
     × (buffer_after op Reply.Failed region value buffer ≡ buffer)
 unfolding stepped region_after buffer_after

@@ -1,7 +1,6 @@
 -- Any host at all: it replies what it likes and lends any bytes, at every step other ones. How many services an operation then still asks for at most.
 use Rattle.std.specs.Prelude.{ℕ, suc, ◌+◌, ◌-◌, ◌*◌, ◌≡◌, Bool, true, false, ◌&&◌, cond, List, [], ◌∷◌, length}
-use Rattle.plans.specs.declared.Answer.{Answer}
-use Rattle.plans.specs.Answers.{refusal}
+use Rattle.plans.specs.Answers.{refusal, Answer}
 use Rattle.plans.specs.declared.Aim.{Aim}
 use Rattle.plans.specs.declared.Then.{Then}
 use Rattle.plans.specs.declared.Plan.{Plan}

@@ -1,15 +1,14 @@
 -- What a step says to the host: whether it asks for a service, which refusal it answers, and where in the chip the service lies.
-use Rattle.std.specs.Prelude.{ℕ, ◌+◌, ◌*◌, ◌≤◌, ◌<◌, ◌≡◌, Bool, true, false, List, length}
+use Rattle.std.specs.Prelude.{ℕ, ◌+◌, ◌*◌, ◌≤◌, ◌<◌, ◌≡◌, Bool, true, false, List, length, Ok, Err}
 use Rattle.format.specs.declared.Record.{Record}
 use Rattle.format.specs.declared.Removal.{Removal}
 use Rattle.format.specs.Layout.{record_length, kill_place, kill_length}
 use Rattle.refusals.specs.declared.Refusal.{Refusal}
 use Rattle.lookup.specs.declared.Seen.{Seen}
-use Rattle.plans.specs.declared.Answer.{Answer}
-use Rattle.plans.specs.declared.Answer.TheVariants.{Complete, Refused}
+use Rattle.plans.specs.declared.Success.TheVariants.{Complete}
 use Rattle.plans.specs.declared.Aim.{Aim}
 use Rattle.plans.specs.declared.Then.{Then}
-use Rattle.plans.specs.Answers.{refusal}
+use Rattle.plans.specs.Answers.{refusal, Answer}
 use Rattle.store.specs.Call.{Call, append, remove, collect, initialise}
 use Rattle.running.specs.declared.Op.{Op}
 use Rattle.running.specs.declared.Request.{Request}
@@ -50,9 +49,9 @@ pub data MayAsk (s : ℕ) : Call → Request → Type 0 where
 
 -- R8.7: what get answers where it found a live record of its key: Complete, BufferTooSmall or InvalidCheckSum.
 pub data Reads : Answer → Type 0 where
-  complete : {len : ℕ} → Reads (Complete len)
-  too_short : {len : ℕ} → Reads (Refused (Refusal.BufferTooSmall len))
-  wrong_sum : Reads (Refused Refusal.InvalidCheckSum)
+  complete : {len : ℕ} → Reads (Ok (Complete len))
+  too_short : {len : ℕ} → Reads (Err (Refusal.BufferTooSmall len))
+  wrong_sum : Reads (Err Refusal.InvalidCheckSum)
 
 -- R8.7: a step of a get that answers so.
 pub record GetReads (op : Op) (request : Request) : Type 0 where

@@ -1,7 +1,7 @@
 -- What makes a step a BadCall, in words, over any running operation, reply and lent bytes.
 use Rattle.std.specs.Prelude.{ℕ, ◌≡◌, true, false, List, length}
-use Rattle.plans.specs.declared.Answer.{Answer}
 use Rattle.plans.specs.declared.Lent.{Lent}
+use Rattle.plans.specs.Answers.{Answer}
 use Rattle.running.specs.declared.Op.{Op}
 use Rattle.running.specs.declared.Reply.{Reply}
 use Rattle.running.specs.declared.Request.{Request}

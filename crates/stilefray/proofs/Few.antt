@@ -19,13 +19,12 @@ use Rattle.lookup.specs.declared.Hit.{Hit}
 use Rattle.lookup.specs.declared.Looked.{Looked}
 use Rattle.lookup.specs.Turns.{hit_by, turn_of}
 use Rattle.plans.specs.declared.Aim.{Aim}
-use Rattle.plans.specs.declared.Answer.{Answer}
 use Rattle.plans.specs.declared.Edits.{Edits}
 use Rattle.plans.specs.declared.Lent.{Lent}
 use Rattle.plans.specs.declared.Plan.{Plan}
 use Rattle.plans.specs.declared.Then.{Then}
 use Rattle.sweeping.specs.declared.Verdict.{Verdict}
-use Rattle.plans.specs.Answers.{starts_anew}
+use Rattle.plans.specs.Answers.{starts_anew, Answer}
 use Rattle.plans.specs.Writes.{value_lent, buffer_lent, first, rest, ends}
 use Rattle.planning.specs.Planning.{need_of, anew, get_plan, place_plan, remove_plan, initialise_plan, plan, given_plan}
 use Rattle.sweeping.specs.Sweeps.{verdict, sweep_plan}

@@ -1,7 +1,6 @@
 -- One step in numbers: steps' `stepped`, `region_after` and `buffer_after` on what the numbers stand for.
-use Rattle.std.specs.Prelude.{ℕ, List, Option, Some, None}
+use Rattle.std.specs.Prelude.{ℕ, List, Option, Some, None, Err}
 use Rattle.refusals.specs.declared.Refusal.{Refusal}
-use Rattle.plans.specs.declared.Answer.TheVariants.{Refused}
 use Rattle.running.specs.declared.Op.{Op}
 use Rattle.running.specs.declared.Reply.{Reply}
 use Rattle.running.specs.declared.Request.{Request}
@@ -15,7 +14,7 @@ use Rattle.operations.specs.Unpacks.{KnownOp, unpacked, known_reply}
 
 -- R6.11: BadCall leaves the running operation as it was: all its numbers.
 abbrev pub bad_call : COperation → CStepped
-bad_call o = record { op = o; request = request_numbers (Request.Answers (Refused Refusal.BadCall)) }
+bad_call o = record { op = o; request = request_numbers (Request.Answers (Err Refusal.BadCall)) }
 
 -- R12.7: what a step hands back, in numbers.
 abbrev pub packed_step : Stepped → CStepped

@@ -5,7 +5,6 @@ ghost use Rattle.stilefray.specs.Allows.{StartGetAllows, StartAppendAllows, Star
 
 use numbers::{CStart, CStepped};
 use operations::COperation;
-use plans::Answer;
 use refusals::Refusal;
 use running::Request;
 
@@ -57,7 +56,7 @@ fn bad_call(op: COperation) -> CStepped
 {
     CStepped {
         op,
-        request: replies::request_numbers(Request::Answers(Answer::Refused(Refusal::BadCall))),
+        request: replies::request_numbers(Request::Answers(Err(Refusal::BadCall))),
     }
 }
 

@@ -13,19 +13,18 @@ use Rattle.refusals.specs.declared.Refusal.{Refusal}
 use Rattle.refusals.specs.Refusals.{first_refusal}
 use Rattle.lookup.specs.Turns.{hit_after, hit_of}
 use Rattle.lookup.proofs.Scan.{fine}
-use Rattle.plans.specs.declared.Answer.TheVariants.{Refused}
 use Rattle.plans.specs.Answers.{starts_anew}
 use Rattle.store.specs.Read.{got_by, get_of}
 
 -- refusals 1, 2 and 3 are handed back
-pub first_kept : (image : List ℕ) (s n key len : ℕ) (w : Refusal) → first_refusal image s n key len ≡ Err w → starts_anew (Refused w) ≡ false
+pub first_kept : (image : List ℕ) (s n key len : ℕ) (w : Refusal) → first_refusal image s n key len ≡ Err w → starts_anew (Err w) ≡ false
 unfolding first_refusal
 first_kept image s n key len w = go (geometry image s n) (allowed_key key) (ltb 4079 len)
   where
-    kept : {v : Refusal} → w ≡ v → starts_anew (Refused v) ≡ false → starts_anew (Refused w) ≡ false
-    kept e k = ap (λ (u : Refusal). starts_anew (Refused u)) e ∙ k
+    kept : {v : Refusal} → w ≡ v → starts_anew (Err v) ≡ false → starts_anew (Err w) ≡ false
+    kept e k = ap (λ (u : Refusal). starts_anew (Err u)) e ∙ k
 
-    go : (a b c : Bool) → cond (not a) (Err Refusal.BadGeometry) (cond (not b) (Err Refusal.BadKey) (cond c (Err Refusal.ObjectTooLarge) (Ok (tt {0})))) ≡ Err w → starts_anew (Refused w) ≡ false
+    go : (a b c : Bool) → cond (not a) (Err Refusal.BadGeometry) (cond (not b) (Err Refusal.BadKey) (cond c (Err Refusal.ObjectTooLarge) (Ok (tt {0})))) ≡ Err w → starts_anew (Err w) ≡ false
     go false b c h = kept (let e : w ≡ Refusal.BadGeometry = cc in e) refl
     go true false c h = kept (let e : w ≡ Refusal.BadKey = cc in e) refl
     go true true true h = kept (let e : w ≡ Refusal.ObjectTooLarge = cc in e) refl

@@ -6,9 +6,7 @@ use mathlib.Core.Path.{◌≡◌, refl, sym, ◌∙◌, ap}
 use mathlib.Core.Bool.{true}
 use mathlib.Core.List.{List}
 use lib.ListN.{length}
-use borrow.Author.Tests.{ltb-true}
 use Rattle.std.specs.Prelude.{Option, Some, None}
-use Rattle.chip.specs.Chip.{written}
 use Rattle.chip.specs.Geometry.{Fits}
 use Rattle.chip.proofs.Image.{fits_written, fits_erased}
 use Rattle.plans.specs.declared.Edit.{Edit}

@@ -35,14 +35,14 @@ removal_fits Removal.Invalidate x l = omega arith
 removal_fits Removal.Zeroise x l = omega (arith, kill_length_lem Removal.Zeroise x l)
 
 -- Append: the first check lets the call pass, and the lookup's end makes the plan.
-module _ (image : List ℕ) (s n key : ℕ) (value : List ℕ) {check : Result (Unit {0}) Refusal} (checked : check ≡ first_refusal image s n key (length value)) (passed : check ≡ Ok tt) where
+module _ (image : List ℕ) (s n key : ℕ) (value : List ℕ) (passed : first_refusal image s n key (length value) ≡ Ok tt) where
   pub append_allowed : Fits image s n × (length value ≤ 4079)
-  append_allowed = let (f, _, short) = fine image s n key (length value) (sym checked ∙ passed) in (f, short)
+  append_allowed = let (f, _, short) = fine image s n key (length value) passed in (f, short)
 
   module _ {looked : Looked} {p : Plan} (looks : looked ≡ lookup_in key (Some (record_length (length value))) s image (probes key n)) (planned : p ≡ append_plan looked) where
     pub append_is : carried s key value image p ≡ append_of image s n key value
     unfolding append_of
-    append_is = rw (planned, looks, sym checked ∙ passed)
+    append_is = rw (planned, looks, passed)
 
     -- the place that was gathered lies in its region
     pub append_fits : edits_fit s n (length value) p.edits ≡ true

@@ -8,13 +8,14 @@ use mathlib.Core.Path.{◌≡◌, sym, ◌∙◌, ap}
 use mathlib.Core.Bool.{true}
 use mathlib.Core.List.{List}
 use lib.ListN.{length, take, drop}
+use Rattle.std.specs.Prelude.{Ok, Err}
 use Rattle.chip.specs.Geometry.{geometry, Fits, region_of, erase_region, numbers}
 use Rattle.chip.proofs.Image.{geometry_fits, part_region, region-length, region_small, fits_erased}
 use Rattle.format.specs.declared.Fault.{Fault}
 use Rattle.refusals.specs.declared.Refusal.{Refusal}
 use Rattle.refusals.specs.Refusals.{refusal_of}
-use Rattle.plans.specs.declared.Answer.{Answer}
-use Rattle.plans.specs.declared.Answer.TheVariants.{Freed, Refused}
+use Rattle.plans.specs.declared.Success.TheVariants.{Freed}
+use Rattle.plans.specs.Answers.{Answer}
 use Rattle.sweeping.specs.declared.Verdict.{Verdict}
 use Rattle.sweeping.specs.Sweeps.{verdict}
 use Rattle.plans.proofs.Lists.{numbers_one}
@@ -26,7 +27,7 @@ abbrev pub sweep : ℕ → ℕ → List ℕ → ℕ → ℕ → Done
 sweep s n image freed r = collect_in s image freed (numbers r (n - r))
 
 module _ (s : ℕ) {n : ℕ} (image : List ℕ) (freed : ℕ) {r : ℕ} where
-  sweep_end : n ≤ r → sweep s n image freed r ≡ record { answer = Freed freed; image = image }
+  sweep_end : n ≤ r → sweep s n image freed r ≡ record { answer = Ok (Freed freed); image = image }
   unfolding collect_in numbers
   sweep_end h = let e : n - r ≡ 0 = omega arith in rw e
 
@@ -63,7 +64,7 @@ answers : {a : Answer} {image : List ℕ} {d : Done} → record { answer = a; im
 answers e = (ap (λ (d : Done). d.answer) e, ap (λ (d : Done). d.image) e)
 
 module _ {image₀ : List ℕ} {s n : ℕ} {image : List ℕ} {freed r : ℕ} (w : Swept image₀ s n image freed r) where
-  pub swept_end : n ≤ r → (Freed freed ≡ (collect_of image₀ s n).answer) × (image ≡ (collect_of image₀ s n).image)
+  pub swept_end : n ≤ r → (Ok (Freed freed) ≡ (collect_of image₀ s n).answer) × (image ≡ (collect_of image₀ s n).image)
   swept_end h = answers (sym (sweep_end s image freed h) ∙ w.rest)
 
   -- the region is one that `judge` takes
@@ -86,5 +87,5 @@ module _ {image₀ : List ℕ} {s n : ℕ} {image : List ℕ} {freed r : ℕ} (w
     swept_erase e k =
         rw k (record { began = w.began; fits = fits_erased w.fits r; few = few_next; rest = sym (sweep_erase s image freed h (is_verdict e)) ∙ w.rest })
 
-    pub swept_bad : {f : Fault} {o : ℕ} {why : Refusal} → v ≡ Verdict.Bad f o → why ≡ refusal_of f → (Refused why ≡ (collect_of image₀ s n).answer) × (image ≡ (collect_of image₀ s n).image)
+    pub swept_bad : {f : Fault} {o : ℕ} {why : Refusal} → v ≡ Verdict.Bad f o → why ≡ refusal_of f → (Err why ≡ (collect_of image₀ s n).answer) × (image ≡ (collect_of image₀ s n).image)
     swept_bad e k = answers (ap (λ (why : Refusal). refused why image) k ∙ sym (sweep_bad s image freed h (is_verdict e)) ∙ w.rest)

@@ -2,8 +2,8 @@
 use Rattle.std.specs.Prelude.{ℕ, List, []}
 use Rattle.std.proofs.Math.Option.{Option, none, some}
 use Rattle.format.specs.declared.Removal.{Removal}
-use Rattle.plans.specs.declared.Answer.{Answer}
 use Rattle.plans.specs.declared.Aim.{Aim}
+use Rattle.plans.specs.Answers.{Answer}
 use Rattle.store.specs.Read.{get_of}
 use Rattle.store.specs.Write.{Done, append_of, remove_of, initialise_of}
 use Rattle.store.specs.Collect.{collect_of}

@@ -3,10 +3,9 @@ use Rattle.std.specs.Prelude.{ℕ, List, length, Result, Err, Ok}
 use Rattle.chip.specs.Geometry.{region_of}
 use Rattle.lookup.specs.declared.Hit.{Hit}
 use Rattle.lookup.specs.Turns.{hit_of}
-use Rattle.plans.specs.declared.Answer.{Answer}
-use Rattle.plans.specs.declared.Answer.TheVariants.{Refused}
 use Rattle.values.specs.Values.{read_answer, read_buffer}
 use Rattle.refusals.specs.declared.Refusal.{Refusal}
+use Rattle.plans.specs.Answers.{Answer}
 
 -- R7.5: the one answer of get, and the one content of its buffer afterwards
 pub record Got : Type 0 where
@@ -15,7 +14,7 @@ pub record Got : Type 0 where
 
 -- R5.2: a live record decides: its value into the buffer. A bad place decides, or no region: the refusal, and the buffer stays.
 abbrev pub got_by : ℕ → List ℕ → List ℕ → Result Hit Refusal → Got
-got_by s image buffer (Err w) = record { answer = Refused w; buffer = buffer }
+got_by s image buffer (Err w) = record { answer = Err w; buffer = buffer }
 got_by s image buffer (Ok h) =
     record { answer = read_answer (region_of s image h.region) h.rec (length buffer); buffer = read_buffer (region_of s image h.region) h.rec buffer }
 

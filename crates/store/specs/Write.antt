@@ -9,11 +9,9 @@ use Rattle.lookup.specs.declared.Looked.{Looked}
 use Rattle.lookup.specs.declared.Hit.{Hit}
 use Rattle.refusals.specs.Refusals.{first_refusal}
 use Rattle.lookup.specs.Turns.{lookup_in, hit_of}
-use Rattle.plans.specs.declared.Answer.{Answer}
-use Rattle.plans.specs.declared.Answer.TheVariants.{Refused}
 use Rattle.plans.specs.declared.Then.{Then}
 use Rattle.plans.specs.declared.Plan.{Plan}
-use Rattle.plans.specs.Answers.{starts_anew}
+use Rattle.plans.specs.Answers.{starts_anew, Answer}
 use Rattle.plans.specs.Writes.{listed, applied}
 use Rattle.planning.specs.Planning.{append_plan, remove_plan}
 use Rattle.store.specs.Read.{get_of}
@@ -25,15 +23,15 @@ pub record Done : Type 0 where
 
 -- R7.3: a refused call alters no byte of the image
 abbrev pub refused : Refusal → List ℕ → Done
-refused w image = record { answer = Refused w; image = image }
+refused w image = record { answer = Err w; image = image }
 
 -- R7.1: the plans of append and of the removals end with an answer. The other three cases do not come: their BadCall only fills the lines, and the
 -- one-call form never answers it (pinned: `at_most_ten`).
 abbrev pub end_of : Then → Answer
 end_of (Then.Ends answer) = answer
-end_of (Then.Seek aim i seen) = Refused Refusal.BadCall
-end_of (Then.Sweep r k) = Refused Refusal.BadCall
-end_of (Then.Gives r x anew) = Refused Refusal.BadCall
+end_of (Then.Seek aim i seen) = Err Refusal.BadCall
+end_of (Then.Sweep r k) = Err Refusal.BadCall
+end_of (Then.Gives r x anew) = Err Refusal.BadCall
 
 -- R5.4, R5.5, R5.6: what append and the removals come to, by their plan: its one write is done, or none where it refuses, and its answer is theirs.
 -- Both forms have the same plan, and that is why they end alike (R9.7).

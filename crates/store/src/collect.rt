@@ -2,7 +2,7 @@
 ghost use Rattle.std.specs.Prelude.{◌≡◌};
 ghost use Rattle.store.specs.Collect.{collect_of};
 
-use plans::Answer;
+use plans::{Answer, Success};
 use refusals::Refusal;
 use sweeping::Verdict;
 
@@ -11,7 +11,7 @@ pub fn garbage_collect(image: &mut [u8], s: usize, n: usize) -> Answer
     ensures { (result ≡ (collect_of image.old s n).answer) × (image.new ≡ (collect_of image.old s n).image) }
 {
     if !chip::fits(&image[..], s, n) {
-        return Answer::Refused(Refusal::BadGeometry);
+        return Err(Refusal::BadGeometry);
     }
     let mut freed: usize = 0;
     for r in 0..n {
@@ -24,8 +24,8 @@ pub fn garbage_collect(image: &mut [u8], s: usize, n: usize) -> Answer
                 chip::erase_region(image, s, n, r);
                 freed += s;
             }
-            Verdict::Bad { fault, place: _ } => return Answer::Refused(fault.into()),
+            Verdict::Bad { fault, place: _ } => return Err(fault.into()),
         }
     }
-    Answer::Freed(freed)
+    Ok(Success::Freed(freed))
 }

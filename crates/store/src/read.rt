@@ -8,12 +8,8 @@ use plans::Answer;
 pub fn get_key(image: &[u8], s: usize, n: usize, key: u64, buffer: &mut [u8]) -> Answer
     ensures { (result ≡ (get_of image.now s n key buffer.old).answer) × (buffer.new ≡ (get_of image.now s n key buffer.old).buffer) }
 {
-    match lookup::find_standing(image, s, n, key) {
-        Err(refusal) => Answer::Refused(refusal),
-        Ok(found) => {
-            let capacity = buffer.len();
-            values::copy_value(&found.standing, buffer);
-            values::read_answer(&found.standing, capacity)
-        }
-    }
+    let found = lookup::find_standing(image, s, n, key)?;
+    let capacity = buffer.len();
+    values::copy_value(&found.standing, buffer);
+    values::read_answer(&found.standing, capacity)
 }

@@ -46,7 +46,7 @@ fn end_of(next: Then) -> Answer
     ensures { result ≡ end_of next }
 {
     let Then::Ends(answer) = next else {
-        return Answer::Refused(Refusal::BadCall);
+        return Err(Refusal::BadCall);
     };
     answer
 }
@@ -66,10 +66,7 @@ fn carry_out(image: &mut [u8], s: usize, n: usize, plan: Plan, key: u64, value: 
 pub fn append_key(image: &mut [u8], s: usize, n: usize, key: u64, value: &[u8]) -> Answer
     ensures { (result ≡ (append_of image.old s n key value.now).answer) × (image.new ≡ (append_of image.old s n key value.now).image) }
 {
-    let check = refusals::first_refusal(&image[..], s, n, key, value.len());
-    if let Err(refusal) = check {
-        return Answer::Refused(refusal);
-    }
+    refusals::first_refusal(&image[..], s, n, key, value.len())?;
     let need = Some(value.len() + Record::LEAST);
     let chip = Chip {
         image: &image[..],
@@ -85,11 +82,8 @@ pub fn append_key(image: &mut [u8], s: usize, n: usize, key: u64, value: &[u8]) 
 fn remove(image: &mut [u8], s: usize, n: usize, key: u64, how: Removal) -> Answer
     ensures { (result ≡ (remove_of how image.old s n key).answer) × (image.new ≡ (remove_of how image.old s n key).image) }
 {
-    let hit = lookup::find_key(&image[..], s, n, key);
-    if let Err(refusal) = hit {
-        return Answer::Refused(refusal);
-    }
-    let plan = planning::remove_plan(how, hit);
+    let hit = lookup::find_key(&image[..], s, n, key)?;
+    let plan = planning::remove_plan(how, Ok(hit));
     carry_out(image, s, n, plan, key, b"")
 }
 

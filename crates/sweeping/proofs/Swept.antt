@@ -6,8 +6,8 @@ use mathlib.Core.Path.{◌≡◌, refl}
 use mathlib.Core.Bool.{Bool, true, false, cond}
 use lib.Dec.{ltb}
 use borrow.Author.Tests.{lt-ltb, le-leb}
-use Rattle.std.specs.Prelude.{Option, Some, None}
-use Rattle.plans.specs.declared.Answer.{Answer}
+use Rattle.std.specs.Prelude.{Option, Some, None, Ok}
+use Rattle.plans.specs.declared.Success.{Success}
 use Rattle.plans.specs.declared.Lent.{Lent}
 use Rattle.plans.specs.declared.Edit.{Edit}
 use Rattle.plans.specs.declared.Edits.{Edits}
@@ -22,11 +22,11 @@ module _ (s n : ℕ) (lent : Lent) (short : value_short lent ≡ true) where
   swept_fits : (es : Edits) (r k : ℕ) → edits_fit s n (value_lent lent) es ≡ true → k ≤ r → PlanFits s n lent (record { edits = es; next = swept_to s n r k })
   swept_fits es r k h l = go (ltb r n) refl
     where
-      freed : (f : Option Edit) → answer_rests f (Answer.Freed (k * s)) ≡ true
+      freed : (f : Option Edit) → answer_rests f (Ok (Success.Freed (k * s))) ≡ true
       freed None = refl
       freed (Some e) = refl
 
-      go : (b : Bool) → ltb r n ≡ b → PlanFits s n lent (record { edits = es; next = cond b (Then.Sweep r k) (Then.Ends (Answer.Freed (k * s))) })
+      go : (b : Bool) → ltb r n ≡ b → PlanFits s n lent (record { edits = es; next = cond b (Then.Sweep r k) (Then.Ends (Ok (Success.Freed (k * s)))) })
       go true e = record { value_short_lem = short; edits_good = h; next_good = join e (le-leb k r l); at_rest = refl }
       go false e = record { value_short_lem = short; edits_good = h; next_good = refl; at_rest = freed (first es) }
 

@@ -1,11 +1,11 @@
 -- Collect, a region at a time.
-use Rattle.std.specs.Prelude.{ℕ, ◌+◌, ◌*◌, Bool, true, false, cond, List, [], ◌∷◌, ltb, length}
+use Rattle.std.specs.Prelude.{ℕ, ◌+◌, ◌*◌, Bool, true, false, cond, List, [], ◌∷◌, ltb, length, Ok}
 use Rattle.format.specs.declared.Record.{Record}
 use Rattle.region.specs.declared.Want.{Want}
 use Rattle.region.specs.declared.Event.{Event}
 use Rattle.region.specs.Walk.{records, event_in}
 use Rattle.refusals.specs.Refusals.{refusal_of}
-use Rattle.plans.specs.declared.Answer.{Answer}
+use Rattle.plans.specs.declared.Success.{Success}
 use Rattle.plans.specs.declared.Edit.{Edit}
 use Rattle.plans.specs.declared.Edits.{Edits}
 use Rattle.plans.specs.declared.Then.{Then}
@@ -31,7 +31,7 @@ verdict r region = verdict_on r region (event_in region Want.Any)
 -- R5.7: region r comes next, and k of those before it were erased or are about to be (R12.4). Behind the last one the answer is Freed with S times
 -- their number.
 abbrev pub swept_to : ℕ → ℕ → ℕ → ℕ → Then
-swept_to s n r k = cond (ltb r n) (Then.Sweep r k) (Then.Ends (Answer.Freed (k * s)))
+swept_to s n r k = cond (ltb r n) (Then.Sweep r k) (Then.Ends (Ok (Success.Freed (k * s))))
 
 -- R5.7, R5.8: a region stands or is erased, and the next one comes. A bad place that decides ends collect with its refusal.
 abbrev pub sweep_plan : ℕ → ℕ → ℕ → ℕ → Verdict → Plan

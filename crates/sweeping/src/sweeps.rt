@@ -4,7 +4,7 @@ ghost use Rattle.chip.specs.Geometry.{Shape};
 ghost use Rattle.sweeping.specs.Sweeps.{verdict, swept_to, sweep_plan};
 
 use crate::Verdict;
-use plans::{Answer, Edit, Edits, Plan, Then};
+use plans::{Edit, Edits, Plan, Success, Then};
 use region::{Event, Want};
 
 // What becomes of region r: the first live record or bad place decides.
@@ -40,7 +40,7 @@ fn swept_to(s: usize, n: usize, r: usize, k: usize) -> Then
             erased: k,
         }
     } else {
-        Then::Ends(Answer::Freed(k * s))
+        Then::Ends(Ok(Success::Freed(k * s)))
     }
 }
 

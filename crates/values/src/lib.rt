@@ -6,7 +6,7 @@ ghost use Rattle.std.specs.Prelude.{◌≡◌};
 ghost use Rattle.values.specs.Values.{read_answer, read_buffer};
 
 use chip::Laid;
-use plans::Answer;
+use plans::{Answer, Success};
 use refusals::Refusal;
 use region::Standing;
 
@@ -16,12 +16,12 @@ pub fn read_answer(found: &Standing, capacity: usize) -> Answer
 {
     let len = found.value_length();
     if capacity < len {
-        return Answer::Refused(Refusal::BufferTooSmall(len));
+        return Err(Refusal::BufferTooSmall(len));
     }
     if found.is_sound() {
-        Answer::Complete(len)
+        Ok(Success::Complete(len))
     } else {
-        Answer::Refused(Refusal::InvalidCheckSum)
+        Err(Refusal::InvalidCheckSum)
     }
 }
 

@@ -13,8 +13,8 @@ use Rattle.std.specs.Prelude.{Result, Ok, Err}
 use Rattle.region.specs.declared.Stop.{Stop}
 use Rattle.region.specs.Walk.{met_at}
 use Rattle.refusals.specs.declared.Refusal.{Refusal}
-use Rattle.plans.specs.declared.Answer.{Answer}
-use Rattle.plans.specs.declared.Answer.TheVariants.{Complete, Refused}
+use Rattle.plans.specs.declared.Success.TheVariants.{Complete}
+use Rattle.plans.specs.Answers.{Answer}
 use Rattle.std.specs.Prelude.{Result}
 use Rattle.store.specs.Read.{Got, get_of}
 use Rattle.bindings.specs.WellFormed.{WellFormed, Bound}
@@ -35,14 +35,14 @@ use Rattle.viewing.proofs.Bytes as Bytes
 -- The value that is lent. For any image, S, N and key.
 module _ (image : List ℕ) (s n key : ℕ) where
   -- R16.1: the companion completes or refuses, and never by BufferTooSmall.
-  pub companion_answers : ((len : ℕ) × (companion_of image s n key ≡ Complete len))
-      ⊎ ((w : Refusal) × (companion_of image s n key ≡ Refused w) × ((len : ℕ) → w ≡ Refusal.BufferTooSmall len → ⊥))
+  pub companion_answers : ((len : ℕ) × (companion_of image s n key ≡ Ok (Complete len)))
+      ⊎ ((w : Refusal) × (companion_of image s n key ≡ Err w) × ((len : ℕ) → w ≡ Refusal.BufferTooSmall len → ⊥))
   companion_answers = Values.completes_or_refuses image s n key
 
   -- R16.1: its answer is get's, into any buffer, but for one that is too short for the value: then get's is BufferTooSmall.
   pub companion_is_get : (buffer : List ℕ)
       → ((get_of image s n key buffer).answer ≡ companion_of image s n key)
-      ⊎ ((len : ℕ) × (((get_of image s n key buffer).answer ≡ Refused (Refusal.BufferTooSmall len)) × (length buffer < len) × (len ≤ 4080)))
+      ⊎ ((len : ℕ) × (((get_of image s n key buffer).answer ≡ Err (Refusal.BufferTooSmall len)) × (length buffer < len) × (len ≤ 4080)))
   companion_is_get buffer = Values.got_answer image s n key buffer
 
   -- R16.1: so into a buffer that takes the longest value it is get's, refusals and all.
@@ -50,49 +50,49 @@ module _ (image : List ℕ) (s n key : ℕ) where
   companion_is_long_get buffer h = ⊎_elim (λ e. e) (λ p. absurd (omega (arith, p.1.1, p.1.2))) (companion_is_get buffer)
 
   -- R16.2, R16.3: where it completes the part is the very bytes at that place of the image, as many as it says, and they lie in the image.
-  pub part_is : (len : ℕ) → companion_of image s n key ≡ Complete len
+  pub part_is : (len : ℕ) → companion_of image s n key ≡ Ok (Complete len)
       → (value_of image s n key ≡ take len (drop (place_of (located_of image s n key)) image))
       × (length (value_of image s n key) ≡ len)
       × (place_of (located_of image s n key) + len ≤ length image)
   part_is len q = (Values.lent_is image s n key q, Values.lent_length image s n key q, (lent image s n key len q).inside)
 
   -- R16.3: it is what get copies into a buffer long enough.
-  pub part_is_got : (len : ℕ) (buffer : List ℕ) → companion_of image s n key ≡ Complete len → len ≤ length buffer
-      → get_of image s n key buffer ≡ record { answer = Complete len; buffer = value_of image s n key ++ drop len buffer }
+  pub part_is_got : (len : ℕ) (buffer : List ℕ) → companion_of image s n key ≡ Ok (Complete len) → len ≤ length buffer
+      → get_of image s n key buffer ≡ record { answer = Ok (Complete len); buffer = value_of image s n key ++ drop len buffer }
   part_is_got len buffer q h = Values.lent_got image s n key q buffer h
 
   -- R16.2, R16.3: where it refuses the place is 0 and the part is empty.
-  pub refused_lends_nothing : (w : Refusal) → companion_of image s n key ≡ Refused w → (place_of (located_of image s n key) ≡ 0) × (value_of image s n key ≡ [])
+  pub refused_lends_nothing : (w : Refusal) → companion_of image s n key ≡ Err w → (place_of (located_of image s n key) ≡ 0) × (value_of image s n key ≡ [])
   refused_lends_nothing w q = (refused_place image s n key w q, ap (part_at image (place_of (located_of image s n key))) q)
 
   -- R16.3: the part is empty exactly when the companion refuses or the value is empty.
-  pub empty_exactly : (value_of image s n key ≡ []) ↔ (((w : Refusal) × (companion_of image s n key ≡ Refused w)) ⊎ (companion_of image s n key ≡ Complete 0))
+  pub empty_exactly : (value_of image s n key ≡ []) ↔ (((w : Refusal) × (companion_of image s n key ≡ Err w)) ⊎ (companion_of image s n key ≡ Ok (Complete 0)))
   empty_exactly = (λ e. ⊎_elim (λ c. inr (none e c.0 c.1)) (λ c. inl (c.0, c.1)) companion_answers, λ c. ⊎_elim (λ r. (refused_lends_nothing r.0 r.1).1) nothing c)
     where
-      none : value_of image s n key ≡ [] → (len : ℕ) → companion_of image s n key ≡ Complete len → companion_of image s n key ≡ Complete 0
-      none e len q = q ∙ ap Complete (sym (part_is len q).1 ∙ ap length e)
+      none : value_of image s n key ≡ [] → (len : ℕ) → companion_of image s n key ≡ Ok (Complete len) → companion_of image s n key ≡ Ok (Complete 0)
+      none e len q = q ∙ ap (λ (len : ℕ). Ok (Complete len)) (sym (part_is len q).1 ∙ ap length e)
 
-      nothing : companion_of image s n key ≡ Complete 0 → value_of image s n key ≡ []
+      nothing : companion_of image s n key ≡ Ok (Complete 0) → value_of image s n key ≡ []
       nothing q = (part_is 0 q).0
 
 -- R16.1, R16.3: a bound key's value is lent, and it is the value that was stored.
 pub bound_is_lent : {s n : ℕ} {image : List ℕ} → WellFormed s n image → (key : ℕ) (value : List ℕ) → Bound s n image key value
-    → (companion_of image s n key ≡ Complete (length value)) × (value_of image s n key ≡ value)
+    → (companion_of image s n key ≡ Ok (Complete (length value))) × (value_of image s n key ≡ value)
 bound_is_lent {s} {n} {image} w key value b = (completes, is completes)
   where
-    got : get_of image s n key value ≡ record { answer = Complete (length value); buffer = value ++ drop (length value) value }
+    got : get_of image s n key value ≡ record { answer = Ok (Complete (length value)); buffer = value ++ drop (length value) value }
     got = get_finds w key value value b (omega arith)
 
-    short : (len : ℕ) → (get_of image s n key value).answer ≡ Refused (Refusal.BufferTooSmall len) → ⊥
+    short : (len : ℕ) → (get_of image s n key value).answer ≡ Err (Refusal.BufferTooSmall len) → ⊥
     short len e =
-        let c : Complete (length value) ≡ Refused (Refusal.BufferTooSmall len) = sym (ap (λ (g : Got). g.answer) got) ∙ e in
+        let c : Ok (Complete (length value)) ≡ Err (Refusal.BufferTooSmall len) = sym (ap (λ (g : Got). g.answer) got) ∙ e in
         let z : ◌≡◌ {A = ℕ} 0 1 = cc in
         omega arith
 
-    completes : companion_of image s n key ≡ Complete (length value)
+    completes : companion_of image s n key ≡ Ok (Complete (length value))
     completes = ⊎_elim (λ e. sym e ∙ ap (λ (g : Got). g.answer) got) (λ p. absurd (short p.0 p.1.0)) (companion_is_get image s n key value)
 
-    is : companion_of image s n key ≡ Complete (length value) → value_of image s n key ≡ value
+    is : companion_of image s n key ≡ Ok (Complete (length value)) → value_of image s n key ≡ value
     is q =
         sym (append-nil (value_of image s n key))
         ∙ ap (λ l. value_of image s n key ++ l) (sym (drop-length value))

@@ -24,8 +24,8 @@ use Rattle.lookup.specs.declared.Looked.{Looked}
 use Rattle.lookup.specs.declared.Hit.{Hit}
 use Rattle.lookup.specs.Turns.{lookup_in, hit_by, hit_after, hit_of, hits}
 use Rattle.lookup.proofs.Ends.{held}
-use Rattle.plans.specs.declared.Answer.{Answer}
-use Rattle.plans.specs.declared.Answer.TheVariants.{Complete, Written, Freed, Refused}
+use Rattle.plans.specs.declared.Success.TheVariants.{Complete, Written, Freed}
+use Rattle.plans.specs.Answers.{Answer}
 use Rattle.values.specs.Values.{read_answer}
 use Rattle.store.specs.Read.{got_by, get_of}
 use Rattle.entries.specs.Entries.{sound_in}
@@ -45,7 +45,7 @@ value_place image s r x least fits =
     ∙ ap (take v) (drop-drop (x.at + 11) (r * s) image)
     ∙ ap (λ k. take v (drop k image)) (let e : r * s + (x.at + 11) ≡ r * s + x.at + 11 = omega arith in e)
 
-module _ (image : List ℕ) (s n key : ℕ) {len : ℕ} (q : companion_of image s n key ≡ Complete len) where
+module _ (image : List ℕ) (s n key : ℕ) {len : ℕ} (q : companion_of image s n key ≡ Ok (Complete len)) where
   l : Lent image s n key len
   l = lent image s n key len q
 
@@ -63,42 +63,42 @@ module _ (image : List ℕ) (s n key : ℕ) {len : ℕ} (q : companion_of image 
   lent_length = ap length lent_is ∙ length-take-le len (drop (place_of (located_of image s n key)) image) (omega (arith, l.inside, length-drop (place_of (located_of image s n key)) image))
 
   -- it is what get copies into a buffer long enough
-  pub lent_got : (buffer : List ℕ) → len ≤ length buffer → get_of image s n key buffer ≡ record { answer = Complete len; buffer = value_of image s n key ++ drop len buffer }
+  pub lent_got : (buffer : List ℕ) → len ≤ length buffer → get_of image s n key buffer ≡ record { answer = Ok (Complete len); buffer = value_of image s n key ++ drop len buffer }
   unfolding get_of
   lent_got buffer h =
       let e : value_length l.rec ≤ length buffer = omega (arith, l.len_is, h) in
       rw (l.hit, le-ltb (length buffer) (value_length l.rec) e, l.right)
-      (λ i. record { answer = Complete (l.len_is i); buffer = sym lent_value i ++ drop (l.len_is i) buffer })
+      (λ i. record { answer = Ok (Complete (l.len_is i)); buffer = sym lent_value i ++ drop (l.len_is i) buffer })
 
 -- What get answers is what the companion does, but for a buffer that is too short.
 pub got_answer : (image : List ℕ) (s n key : ℕ) (buffer : List ℕ)
-    → ((get_of image s n key buffer).answer ≡ companion_of image s n key) ⊎ ((len : ℕ) × (((get_of image s n key buffer).answer ≡ Refused (Refusal.BufferTooSmall len)) × (length buffer < len) × (len ≤ 4080)))
+    → ((get_of image s n key buffer).answer ≡ companion_of image s n key) ⊎ ((len : ℕ) × (((get_of image s n key buffer).answer ≡ Err (Refusal.BufferTooSmall len)) × (length buffer < len) × (len ≤ 4080)))
 unfolding get_of located_of
 got_answer image s n key buffer = go (hit_of image s n key) refl
   where
     short : (r : ℕ) (x : Record) → x.len ≤ 4095 → (b : Bool) → ltb (length buffer) (value_length x) ≡ b
-        → (read_answer (region_of s image r) x (length buffer) ≡ answer_of (located_by s image (hits r x))) ⊎ ((len : ℕ) × ((read_answer (region_of s image r) x (length buffer) ≡ Refused (Refusal.BufferTooSmall len)) × (length buffer < len) × (len ≤ 4080)))
+        → (read_answer (region_of s image r) x (length buffer) ≡ answer_of (located_by s image (hits r x))) ⊎ ((len : ℕ) × ((read_answer (region_of s image r) x (length buffer) ≡ Err (Refusal.BufferTooSmall len)) × (length buffer < len) × (len ≤ 4080)))
     short r x m true t = inr (value_length x, (rw t, ltb-true _ _ t, omega arith))
     short r x m false t = inl (rw t (by_sum (sound_in (region_of s image r) x) refl))
       where
-        by_sum : (b : Bool) → sound_in (region_of s image r) x ≡ b → cond (sound_in (region_of s image r) x) (Complete (value_length x)) (Refused Refusal.InvalidCheckSum) ≡ answer_of (located_by s image (hits r x))
+        by_sum : (b : Bool) → sound_in (region_of s image r) x ≡ b → cond (sound_in (region_of s image r) x) (Ok (Complete (value_length x))) (Err Refusal.InvalidCheckSum) ≡ answer_of (located_by s image (hits r x))
         by_sum true e = rw e
         by_sum false e = rw e
 
     go : (hit : Result Hit Refusal) → hit_of image s n key ≡ hit
-        → ((got_by s image buffer (hit_of image s n key)).answer ≡ answer_of (located_by s image (hit_of image s n key))) ⊎ ((len : ℕ) × (((got_by s image buffer (hit_of image s n key)).answer ≡ Refused (Refusal.BufferTooSmall len)) × (length buffer < len) × (len ≤ 4080)))
+        → ((got_by s image buffer (hit_of image s n key)).answer ≡ answer_of (located_by s image (hit_of image s n key))) ⊎ ((len : ℕ) × (((got_by s image buffer (hit_of image s n key)).answer ≡ Err (Refusal.BufferTooSmall len)) × (length buffer < len) × (len ≤ 4080)))
     go (Err w) e = inl (rw e)
     go (Ok h) e = rw e (short h.region h.rec (held image s n key h.region h.rec e).found.short (ltb (length buffer) (value_length h.rec)) refl)
 
 -- No lookup ends with BufferTooSmall, the one refusal that carries something. Nothing is odd about Complete, and about a refusal that carries
 -- nothing.
 abbrev odd : Answer → List ℕ
-odd (Complete len) = []
-odd Written = 0 ∷ []
-odd (Freed bytes) = 0 ∷ []
-odd (Refused w) = carried w
+odd (Ok (Complete len)) = []
+odd (Ok Written) = 0 ∷ []
+odd (Ok (Freed bytes)) = 0 ∷ []
+odd (Err w) = carried w
 
-not_odd_fault : (f : Fault) → odd (Refused (refusal_of f)) ≡ []
+not_odd_fault : (f : Fault) → odd (Err (refusal_of f)) ≡ []
 not_odd_fault UnsupportedVersion = refl
 not_odd_fault CorruptData = refl
 
@@ -124,15 +124,15 @@ companion_not_odd image s n key = not_odd_after image s n key (geometry image s 
 
 -- The companion completes or refuses, and what it refuses by is no BufferTooSmall.
 pub completes_or_refuses : (image : List ℕ) (s n key : ℕ)
-    → ((len : ℕ) × (companion_of image s n key ≡ Complete len)) ⊎ ((w : Refusal) × (companion_of image s n key ≡ Refused w) × ((len : ℕ) → w ≡ Refusal.BufferTooSmall len → ⊥))
+    → ((len : ℕ) × (companion_of image s n key ≡ Ok (Complete len))) ⊎ ((w : Refusal) × (companion_of image s n key ≡ Err w) × ((len : ℕ) → w ≡ Refusal.BufferTooSmall len → ⊥))
 completes_or_refuses image s n key = go (companion_of image s n key) refl (companion_not_odd image s n key)
   where
     short : (w : Refusal) → carried w ≡ [] → (len : ℕ) → w ≡ Refusal.BufferTooSmall len → ⊥
     short w p len e = let z : ◌≡◌ {A = ℕ} 0 1 = sym (ap length p) ∙ ap (λ v. length (carried v)) e in omega arith
 
     go : (a : Answer) → companion_of image s n key ≡ a → odd a ≡ []
-        → ((len : ℕ) × (companion_of image s n key ≡ Complete len)) ⊎ ((w : Refusal) × (companion_of image s n key ≡ Refused w) × ((len : ℕ) → w ≡ Refusal.BufferTooSmall len → ⊥))
-    go (Complete len) e p = inl (len, e)
-    go Written e p = absurd (let z : ◌≡◌ {A = ℕ} 1 0 = ap length p in omega arith)
-    go (Freed bytes) e p = absurd (let z : ◌≡◌ {A = ℕ} 1 0 = ap length p in omega arith)
-    go (Refused w) e p = inr (w, e, short w p)
+        → ((len : ℕ) × (companion_of image s n key ≡ Ok (Complete len))) ⊎ ((w : Refusal) × (companion_of image s n key ≡ Err w) × ((len : ℕ) → w ≡ Refusal.BufferTooSmall len → ⊥))
+    go (Ok (Complete len)) e p = inl (len, e)
+    go (Ok Written) e p = absurd (let z : ◌≡◌ {A = ℕ} 1 0 = ap length p in omega arith)
+    go (Ok (Freed bytes)) e p = absurd (let z : ◌≡◌ {A = ℕ} 1 0 = ap length p in omega arith)
+    go (Err w) e p = inr (w, e, short w p)
