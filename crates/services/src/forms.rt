@@ -1,5 +1,4 @@
 // A call one service at a time, held against the same call made in one.
-ghost use Rattle.std.specs.Prelude.{◌≤◌};
 
 use crate::call::Call;
 use host::{Host, Pace};
@@ -7,18 +6,16 @@ use report::{Hex, Image};
 use running::{Reply, Request};
 use std::io;
 
-// A get into a buffer of so many bytes, and what lies in it then. In one call it has the buffer's twin.
+// A get into a buffer, and what lies in it then. In one call it has the buffer's twin.
 pub fn get<const LEN: usize>(
     rt: &impl Print,
     what: &str,
     key: u64,
     image: &mut Image<256>,
+    mut buffer: [u8; LEN],
     pace: Pace,
-) -> io::Result<()>
-    requires { LEN ≤ 64 }
-{
-    let mut buffer = [0; LEN];
-    let mut twin = [0; LEN];
+) -> io::Result<()> {
+    let mut twin = buffer;
     println!(rt; "{what}")?;
     both(rt, Call::Get(key), image, b"", &mut buffer, &mut twin, pace)?;
     println!(rt; "  buffer:{}", Hex(&buffer))

@@ -41,8 +41,8 @@ fn small_record(rt: &impl Print, image: &mut Image<256>) -> io::Result<()> {
         &[7, 8, 9],
         Pace::READY,
     )?;
-    get::<5>(rt, "get 1 into 5 bytes", 1, image, Pace::READY)?;
-    get::<2>(rt, "get 1 into 2 bytes", 1, image, Pace::SLOW)?;
+    get(rt, "get 1 into 5 bytes", 1, image, [0; 5], Pace::READY)?;
+    get(rt, "get 1 into 2 bytes", 1, image, [0; 2], Pace::SLOW)?;
     change(
         rt,
         "append 1 again",
@@ -63,8 +63,8 @@ fn spilled_record(rt: &impl Print, image: &mut Image<256>) -> io::Result<()> {
         &[5; 40],
         Pace::SLOW,
     )?;
-    get::<40>(rt, "get 5 into 40 bytes", 5, image, Pace::READY)?;
-    get::<1>(rt, "get 2 into 1 byte", 2, image, Pace::READY)
+    get(rt, "get 5 into 40 bytes", 5, image, [0; 40], Pace::READY)?;
+    get(rt, "get 2 into 1 byte", 2, image, [0; 1], Pace::READY)
 }
 
 // A failed service is not done, and ends the operation.
