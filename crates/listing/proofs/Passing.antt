@@ -10,8 +10,8 @@ use mathlib.Core.List.{List}
 use lib.Dec.{ltb}
 use lib.ListN.{length}
 use Rattle.std.specs.Prelude.{Option, Some, None}
-use Rattle.std.proofs.Common.{Bor}
 use Rattle.chip.specs.Geometry.{geometry, region_of, Fits}
+use Rattle.chip.specs.declared.regions.Chip.{Chip}
 use Rattle.chip.proofs.Image.{geometry_fits}
 use Rattle.format.specs.declared.Record.{Record}
 use Rattle.format.specs.declared.Fault.{Fault}
@@ -81,77 +81,69 @@ none_is here Entry.Over q = inl refl
 none_is here (Entry.Refused w) q = inr (w, refl)
 
 -- All lines are put but those from the pass's place on, and it is a pass over the chip.
-pub record On (image : List ℕ) (s n : ℕ) (first page : Page) (i : Entries) : Type 0 where
-  pub left : Left image s n first page i.here
-  pub image_is : i.image.now ≡ image
-  pub s_is : i.s ≡ s
-  pub n_is : i.n ≡ n
+pub record On (chip : Chip) (first page : Page) (i : Entries) : Type 0 where
+  pub left : Left chip.image.now chip.s chip.n first page i.here
+  pub chip_is : i.chip ≡ chip
 
-module _ {image : List ℕ} {s n : ℕ} (f : Fits image s n) where
+module _ {chip : Chip} (f : Fits chip.image.now chip.s chip.n) where
   -- a pass from a chip's first place on
-  pub on_first : (page : Page) {part : Bor (List ℕ)} (i : Entries) → i ≡ record { image = part; s = s; n = n; here = record { region = 0; at = 0 } } → image ≡ part.now → On image s n page page i
-  on_first page i e g =
-      record {
-        left = subst (Left image s n page page) (sym (ap (λ (x : Entries). x.here) e)) (left_first f page);
-        image_is = ap (λ (x : Entries). x.image.now) e ∙ sym g;
-        s_is = ap (λ (x : Entries). x.s) e;
-        n_is = ap (λ (x : Entries). x.n) e;
-      }
+  pub on_first : (page : Page) (i : Entries) → i.chip ≡ chip → i.here ≡ record { region = 0; at = 0 } → On chip page page i
+  on_first page i e h = record { left = subst (Left chip.image.now chip.s chip.n page page) (sym h) (left_first f page); chip_is = e }
 
-  module _ {first page : Page} {i : Entries} (on : On image s n first page i) where
+  module _ {first page : Page} {i : Entries} (on : On chip first page i) where
     abbrev h : Shown
-    h = shown_at image s n i.here.region i.here.at
+    h = shown_at chip.image.now chip.s chip.n i.here.region i.here.at
 
     h_is : shown_here i ≡ h
-    h_is = λ j. shown_at (on.image_is j) (on.s_is j) (on.n_is j) i.here.region i.here.at
+    h_is = λ j. shown_at (on.chip_is j).image.now (on.chip_is j).s (on.chip_is j).n i.here.region i.here.at
 
     -- an entry is given
     module _ (i' : Entries) {place : Place} {entry : Entry} (u : Passes i (Some (place, entry)) i') where
       item : (place ≡ i.here) × (entry ≡ h.entry)
       item = item_is i.here h.entry place entry (u.0 ∙ ap (λ (t : Shown). item_at i.here t.entry) h_is)
 
-      to : i'.here ≡ goes_to n h.entry h.next
-      to = u.1 ∙ (λ j. goes_to (on.n_is j) (h_is j).entry (h_is j).next)
+      to : i'.here ≡ goes_to chip.n h.entry h.next
+      to = u.1 ∙ (λ j. goes_to (on.chip_is j).n (h_is j).entry (h_is j).next)
 
-      still : (page' : Page) → Left image s n first page' i'.here → On image s n first page' i'
-      still page' l = record { left = l; image_is = u.2 ∙ on.image_is; s_is = u.3 ∙ on.s_is; n_is = u.4 ∙ on.n_is }
+      still : (page' : Page) → Left chip.image.now chip.s chip.n first page' i'.here → On chip first page' i'
+      still page' l = record { left = l; chip_is = u.2 ∙ on.chip_is }
 
       module _ (x : Record) (b : Bool) (q : entry ≡ Entry.Stands x b) where
         stands_here : h.entry ≡ Entry.Stands x b
         stands_here = sym item.1 ∙ q
 
-        pub line_room : n * s ≤ most_image → first.at ≤ 29 → most_text ≤ length first.out.now
+        pub line_room : chip.n * chip.s ≤ most_image → first.at ≤ 29 → most_text ≤ length first.out.now
             → (place.region < 100000) × (x.at < 100000) × (15 ≤ x.len) × (x.len < 100000) × HasRoom page 40
         line_room m a t =
             subst (λ (z : Place). (z.region < 100000) × (x.at < 100000) × (15 ≤ x.len) × (x.len < 100000) × HasRoom page 40) (sym item.0)
             (room_line f on.left h x b refl stands_here m a t)
 
-        pub line_put : (page' : Page) → Puts page (line_of place.region x) page' → On image s n first page' i'
+        pub line_put : (page' : Page) → Puts page (line_of place.region x) page' → On chip first page' i'
         line_put page' v =
             let l = left_stands f on.left h x b refl stands_here page' (subst (λ (z : Place). Puts page (line_of z.region x) page') item.0 v) in
-            still page' (subst (λ (z : Place). Left image s n first page' z) (sym (to ∙ ap (λ (e : Entry). goes_to n e h.next) stands_here)) l)
+            still page' (subst (λ (z : Place). Left chip.image.now chip.s chip.n first page' z) (sym (to ∙ ap (λ (e : Entry). goes_to chip.n e h.next) stands_here)) l)
 
       module _ (g : Fault) (q : entry ≡ Entry.Bad g) where
         bad_here : h.entry ≡ Entry.Bad g
         bad_here = sym item.1 ∙ q
 
-        pub bad_room : n * s ≤ most_image → first.at ≤ 29 → most_text ≤ length first.out.now → (place.region < 100000) × (place.at < 100000) × HasRoom page 16
+        pub bad_room : chip.n * chip.s ≤ most_image → first.at ≤ 29 → most_text ≤ length first.out.now → (place.region < 100000) × (place.at < 100000) × HasRoom page 16
         bad_room m a t =
             subst (λ (z : Place). (z.region < 100000) × (z.at < 100000) × HasRoom page 16) (sym item.0) (room_bad f on.left h g refl bad_here m a t)
 
-        pub bad_put : (page' : Page) → Puts page (bad_line place.region place.at) page' → On image s n first page' i'
+        pub bad_put : (page' : Page) → Puts page (bad_line place.region place.at) page' → On chip first page' i'
         bad_put page' v =
             let l = left_bad f on.left h g refl bad_here page' (subst (λ (z : Place). Puts page (bad_line z.region z.at) page') item.0 v) in
-            still page' (subst (λ (z : Place). Left image s n first page' z) (sym (to ∙ ap (λ (e : Entry). goes_to n e h.next) bad_here)) l)
+            still page' (subst (λ (z : Place). Left chip.image.now chip.s chip.n first page' z) (sym (to ∙ ap (λ (e : Entry). goes_to chip.n e h.next) bad_here)) l)
 
       -- no other is put: where a region ends the next one follows
-      pub none_put : ((x : Record) (b : Bool) → entry ≡ Entry.Stands x b → ⊥) → ((g : Fault) → entry ≡ Entry.Bad g → ⊥) → On image s n first page i'
+      pub none_put : ((x : Record) (b : Bool) → entry ≡ Entry.Stands x b → ⊥) → ((g : Fault) → entry ≡ Entry.Bad g → ⊥) → On chip first page i'
       none_put k m = go h.entry refl
         where
-          go : (e : Entry) → h.entry ≡ e → On image s n first page i'
+          go : (e : Entry) → h.entry ≡ e → On chip first page i'
           go (Entry.Stands x b) q = absurd (k x b (item.1 ∙ q))
           go Entry.Ends q =
-              still page (subst (λ (z : Place). Left image s n first page z) (sym (to ∙ ap (λ (e : Entry). goes_to n e h.next) q)) (left_ends f on.left h refl q))
+              still page (subst (λ (z : Place). Left chip.image.now chip.s chip.n first page z) (sym (to ∙ ap (λ (e : Entry). goes_to chip.n e h.next) q)) (left_ends f on.left h refl q))
           go (Entry.Bad g) q = absurd (m g (item.1 ∙ q))
           go Entry.Over q =
               absurd (let z : ◌≡◌ {A = Option (Place × Entry)} (Some (place, entry)) None = u.0 ∙ ap (λ (t : Shown). item_at i.here t.entry) h_is ∙ ap (item_at i.here) q in let y : ◌≡◌ {A = ℕ} 0 1 = cc in omega arith)
@@ -159,5 +151,5 @@ module _ {image : List ℕ} {s n : ℕ} (f : Fits image s n) where
               absurd (let z : ◌≡◌ {A = Option (Place × Entry)} (Some (place, entry)) None = u.0 ∙ ap (λ (t : Shown). item_at i.here t.entry) h_is ∙ ap (item_at i.here) q in let y : ◌≡◌ {A = ℕ} 0 1 = cc in omega arith)
 
     -- the pass is through
-    pub all_put : (i' : Entries) → Passes i None i' → Puts first (text_of (inventory image s n)) page
+    pub all_put : (i' : Entries) → Passes i None i' → Puts first (text_of (inventory chip.image.now chip.s chip.n)) page
     all_put i' u = left_over f on.left h refl (none_is i.here h.entry (u.0 ∙ ap (λ (t : Shown). item_at i.here t.entry) h_is))

@@ -25,14 +25,14 @@ goes_to n (Entry.Refused w) next = next
 
 -- R16.4: what the call shows at the place where a pass is
 abbrev pub shown_here : Entries → Shown
-shown_here p = shown_at p.image.now p.s p.n p.here.region p.here.at
+shown_here p = shown_at p.chip.image.now p.chip.s p.chip.n p.here.region p.here.at
 
 -- R16.6: one entry of a pass: the next is looked for in the same chip, where the call says.
 abbrev pub Passes : Entries → Option (Place × Entry) → Entries → Type 0
 Passes p r q =
     (r ≡ item_at p.here (shown_here p).entry)
-    × (q.here ≡ goes_to p.n (shown_here p).entry (shown_here p).next)
-    × (q.image.now ≡ p.image.now) × (q.s ≡ p.s) × (q.n ≡ p.n)
+    × (q.here ≡ goes_to p.chip.n (shown_here p).entry (shown_here p).next)
+    × (q.chip ≡ p.chip)
 
 -- R16.6: how much is to be looked at yet: regions, and places of this one
 abbrev pub ahead : ℕ → ℕ → ℕ → ℕ → ℕ
@@ -40,4 +40,4 @@ ahead s n r o = (n - r) * (s + 1) + (s - o)
 
 -- R16.6: so a pass ends.
 abbrev pub to_come : Entries → Count
-to_come p = at_most (ahead p.s p.n p.here.region p.here.at)
+to_come p = at_most (ahead p.chip.s p.chip.n p.here.region p.here.at)

@@ -3,14 +3,13 @@
 #![tactic(auto)]
 
 ghost use Rattle.std.specs.Prelude.{◌≡◌, ◌*◌, ◌≤◌, length};
-ghost use Rattle.chip.specs.Geometry.{Fits};
 ghost use Rattle.entries.specs.Inventory.{inventory};
 ghost use Rattle.intake.specs.Intake.{most_image};
 ghost use Rattle.lines.specs.Pages.{Puts};
 ghost use Rattle.listing.specs.Listing.{text_of, most_text, filled, text_length};
 
+use chip::Chip;
 use entries::{Entry, Place, Shown};
-use intake::Chip;
 use lines::Page;
 
 // R16.10: a buffer of so many bytes takes the text of any input.
@@ -19,9 +18,7 @@ pub const MOST_TEXT: usize = 180224;
 // R16.6: a pass over a chip: what stands at each place, one after the other, up to the first bad one. Each call looks at one place.
 #[derive(Drop)]
 struct Entries<'a> {
-    image: &'a [u8],
-    s: usize,
-    n: usize,
+    chip: Chip<'a>,
     here: Place,
 }
 
@@ -36,20 +33,12 @@ impl Iterator for Entries<'_> {
 
     fn next(&mut self) -> Option<(Place, Entry)> {
         let here = self.here;
-        let Shown { entry, next } = entries::record_at(
-            self.image,
-            self.s,
-            self.n,
-            here.region,
-            here.at,
-        );
+        let Chip { image, s, n } = self.chip;
+        let Shown { entry, next } = entries::record_at(image, s, n, here.region, here.at);
         self.here = match entry {
             Entry::Stands { .. } | Entry::Ends => next,
             // Nothing is behind a bad place, as nothing is behind the last region.
-            Entry::Bad(_) => Place {
-                region: self.n,
-                at: 0,
-            },
+            Entry::Bad(_) => Place { region: n, at: 0 },
             Entry::Over | Entry::Refused(_) => return None,
         };
         Some((here, entry))
@@ -57,12 +46,12 @@ impl Iterator for Entries<'_> {
 }
 
 // The lines of a chip's records behind the header line.
-fn list_from(image: &[u8], s: usize, n: usize, page: &mut Page)
-    requires { (Fits image.now s n) × (n * s ≤ most_image) × (page.old.at ≤ 29) × (most_text ≤ length page.old.out.now) }
-    ensures { Puts page.old (text_of (inventory image.now s n)) page.new }
+fn list_from(chip: &Chip, page: &mut Page)
+    requires { (chip.now.n * chip.now.s ≤ most_image) × (page.old.at ≤ 29) × (most_text ≤ length page.old.out.now) }
+    ensures { Puts page.old (text_of (inventory chip.now.image.now chip.now.s chip.now.n)) page.new }
 {
     let here = Place { region: 0, at: 0 };
-    for (place, entry) in (Entries { image, s, n, here }) {
+    for (place, entry) in (Entries { chip: *chip, here }) {
         match entry {
             Entry::Stands { rec, .. } => page.put_line(place.region, rec),
             Entry::Bad(_) => page.put_bad(place.region, place.at),
@@ -79,11 +68,16 @@ pub fn list(input: &[u8], out: &mut [u8]) -> usize
         return 0;
     }
     let mut page = Page::new(out);
-    let Some(Chip { s, n, start }) = intake::take_in(input) else {
+    let Some(intake::Chip { s, n, start }) = intake::take_in(input) else {
         page.put_refused();
         return page.at;
     };
     page.put_header();
-    list_from(&input[start..], s, n, &mut page);
+    let chip = Chip {
+        image: &input[start..],
+        s,
+        n,
+    };
+    list_from(&chip, &mut page);
     page.at
 }

@@ -11,18 +11,21 @@ use Rattle.listing.proofs.list.Goals as goal
 pub returns-then-out-lt-MOST_TEXT : goal.returns-then-out-lt-MOST_TEXT
 returns-then-out-lt-MOST_TEXT c = too_short _ _ (omega arith)
 
-pub slice_bounds-list_from-count : goal.slice_bounds-list_from-count
-slice_bounds-list_from-count c = image_behind c.args.input.now (sym c.take_in.ensures ∙ c.in-Some.is)
+pub slice_bounds-chip-count : goal.slice_bounds-chip-count
+slice_bounds-chip-count c = image_behind c.args.input.now (sym c.take_in.ensures ∙ c.in-Some.is)
 
-pub slice_bounds-list_from-start : goal.slice_bounds-list_from-start
-slice_bounds-list_from-start c = image_behind c.args.input.now (sym c.take_in.ensures ∙ c.in-Some.is)
+pub slice_bounds-chip-start : goal.slice_bounds-chip-start
+slice_bounds-chip-start c = image_behind c.args.input.now (sym c.take_in.ensures ∙ c.in-Some.is)
+
+pub invariant_of-chip : goal.invariant_of-chip
+invariant_of-chip c = record { fits = (image_fits c.args.input.now (sym c.take_in.ensures ∙ c.in-Some.is)).0 }
 
 pub list_from-requires : goal.list_from-requires
 list_from-requires c =
     let f = image_fits c.args.input.now (sym c.take_in.ensures ∙ c.in-Some.is) in
     let n = c.new-page.ensures in
     let h = c.put_header.ensures in
-    (f.0, f.1, omega (arith, h.2, n.2), omega (arith, ap length h.1, ap length n.1, length-sets c.new-page.result.out.now c.new-page.result.at header_line))
+    (f.1, omega (arith, h.2, n.2), omega (arith, ap length h.1, ap length n.1, length-sets c.new-page.result.out.now c.new-page.result.at header_line))
 
 pub returns-in_default : goal.returns-in_default
 returns-in_default c =

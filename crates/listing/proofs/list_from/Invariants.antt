@@ -7,4 +7,4 @@ abbrev pub invariant-loop-place : goal.invariant-loop-place
 invariant-loop-place l =
     goal.iterator-loop-place.can_next l.place-iterator
     × goal.iterator-loop-place.is_finite l.place-iterator
-    × On l.fn.image l.fn.s l.fn.n l.initial.page l.page l.place-iterator
+    × On l.fn.chip l.initial.page l.page l.place-iterator

@@ -9,10 +9,11 @@ use Rattle.listing.proofs.EntriesIterator.next.Goals.{in-Stands, in-Bad}
 pub returns-clause-goes : goal.returns-clause-goes
 returns-clause-goes c =
     let p = c.args.self.now in
-    let less : ahead p.s p.n c.match-entry.self.region c.match-entry.self.at < ahead p.s p.n p.here.region p.here.at =
+    let d = p.chip in
+    let less : ahead d.s d.n c.match-entry.self.region c.match-entry.self.at < ahead d.s d.n p.here.region p.here.at =
     elim c.match-entry.branch [
-      | in-Stands w ↦ rw w.self-is (falls_on p.image.now p.s p.n p.here _ c.record_at-entry.ensures w.in-Stands.is)
-      | in-Bad w ↦ rw w.self-is (falls_bad p.image.now p.s p.n p.here _ c.record_at-entry.ensures _ w.in-Bad.is)
+      | in-Stands w ↦ rw w.self-is (falls_on d.image.now d.s d.n p.here _ c.record_at-entry.ensures w.in-Stands.is)
+      | in-Bad w ↦ rw w.self-is (falls_bad d.image.now d.s d.n p.here _ c.record_at-entry.ensures _ w.in-Bad.is)
     ]
     in
     record { on = λ _. (tt, tt, less); keeps = tt; rests = λ _. tt }
