@@ -18,7 +18,7 @@ returns c =
     let f = c.in_ok-found.found in
     let e = c.in_ok-found.ensures in
     rw e.found (
-      c.locate.ensures
-      ∙ ap (λ (m : ℕ). located_in f.standing.region.now (f.region * m) f.standing.rec) e.size
-      ∙ ap (λ (region : List ℕ). located_in region (f.region * c.args.s) f.standing.rec) e.region
+    c.locate.ensures
+    ∙ ap (λ (m : ℕ). located_in f.standing.region.now (f.region * m) f.standing.rec) e.size
+    ∙ ap (λ (region : List ℕ). located_in region (f.region * c.args.s) f.standing.rec) e.region
     )
