@@ -62,6 +62,11 @@ impl<'a> Host<'a> {
         steps::step(op, reply, &mut self.region, self.value, self.buffer)
     }
 
+    // A step with another value and buffer than the operation was started with.
+    pub fn step_lent(&mut self, op: Op, reply: Reply, value: &[u8], buffer: &mut [u8]) -> Stepped {
+        steps::step(op, reply, &mut self.region, value, buffer)
+    }
+
     // From a request to the answer.
     pub fn drive(&mut self, rt: &impl Print, first: Stepped) -> io::Result<Stepped> {
         let mut now = first;

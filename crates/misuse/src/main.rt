@@ -60,7 +60,7 @@ fn bad_appends(rt: &impl Print, op: Op, image: &mut [u8; 256]) -> io::Result<()>
     let op = host.beat(rt, first, 0)?.op;
     let now = steps::step(op, Reply::Done, &mut [0; 63], &value, &mut []);
     let op = said(rt, "region buffer of 63 bytes", now)?;
-    let now = steps::step(op, Reply::Done, &mut host.region, &[7, 8], &mut []);
+    let now = host.step_lent(op, Reply::Done, &[7, 8], &mut []);
     let op = said(rt, "value of 2 bytes", now)?;
     let now = host.step(op, Reply::Begin);
     let op = said(rt, "begin at the second step", now)?;
@@ -75,7 +75,7 @@ fn bad_gets(rt: &impl Print, op: Op, image: &mut [u8; 256]) -> io::Result<()> {
     let now = host.step(op, Reply::Done);
     let op = said(rt, "done at the first step", now)?;
     let op = host.step(op, Reply::Begin).op;
-    let now = steps::step(op, Reply::Done, &mut host.region, b"", &mut [0; 6]);
+    let now = host.step_lent(op, Reply::Done, b"", &mut [0; 6]);
     let op = said(rt, "buffer of 6 bytes", now)?;
     let op = finish(rt, op, &mut host)?;
     let now = host.step(op, Reply::Done);
