@@ -122,6 +122,27 @@ unfolding is_blank
 blank_erased zero = refl
 blank_erased (suc n) = blank_erased n
 
+-- a part in two: the front decides, or what is behind it does
+pub blank_append : (front behind : List ℕ) → is_blank (front ++ behind) ≡ (is_blank front && is_blank behind)
+unfolding is_blank
+blank_append [] behind = refl
+blank_append (b ∷ front) behind = ap (λ (t : Bool). eqb b 255 && t) (blank_append front behind) ∙ nested (eqb b 255) (is_blank front) (is_blank behind)
+  where
+    nested : (t u v : Bool) → (t && (u && v)) ≡ ((t && u) && v)
+    nested true u v = refl
+    nested false u v = refl
+
+pub blank_not : (part front behind : List ℕ) → part ≡ front ++ behind → is_blank front ≡ false → false ≡ is_blank part
+blank_not part front behind p e = sym (ap is_blank p ∙ blank_append front behind ∙ ap (λ (t : Bool). t && is_blank behind) e)
+
+pub blank_behind : (part front behind : List ℕ) → part ≡ front ++ behind → is_blank front ≡ true → is_blank behind ≡ is_blank part
+blank_behind part front behind p e = sym (ap is_blank p ∙ blank_append front behind ∙ ap (λ (t : Bool). t && is_blank behind) e)
+
+pub blank_end : (part : List ℕ) → length part ≡ 0 → true ≡ is_blank part
+unfolding is_blank
+blank_end [] e = refl
+blank_end (b ∷ part) e = absurd (omega arith)
+
 -- each byte in turn, where t is what those before it say
 pub blank_folded : (part : List ℕ) (b : Bool) → b ≡ fold (λ (t : Bool) (x : ℕ). t && eqb x 255) true part → b ≡ is_blank part
 unfolding is_blank

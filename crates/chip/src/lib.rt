@@ -38,8 +38,25 @@ pub fn erase(region: &mut [u8])
     fill(region, BLANK);
 }
 
-// Whether every byte is as an erase leaves it. Unlike `all` the fold stops at no byte, and so tests many at a time.
+// So many bytes are tested at a time.
+const BLOCK: usize = 64;
+
+// Whether every byte is as an erase leaves it: block by block, up to the first one that is not blank. Out of line, so that a lookup's loop over
+// the regions, which asks this of one of them at most, stays small.
+#[inline(never)]
 pub fn is_blank(part: &[u8]) -> bool
+    ensures { result ≡ is_blank part.now }
+{
+    for block in part.chunks(BLOCK) {
+        if !is_blank_block(block) {
+            return false;
+        }
+    }
+    true
+}
+
+// Unlike `all` the fold stops at no byte, and so tests many at a time.
+fn is_blank_block(part: &[u8]) -> bool
     ensures { result ≡ is_blank part.now }
 {
     part.iter()
