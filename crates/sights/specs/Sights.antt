@@ -10,6 +10,7 @@ use Rattle.entries.specs.declared.Entry.{Entry}
 use Rattle.entries.specs.declared.Shown.{Shown}
 use Rattle.lending.specs.declared.Part.{Part}
 use Rattle.lending.specs.Lending.{answer_of, place_of}
+use Rattle.plans.specs.Answers.{Answer}
 use Rattle.replies.specs.Answers.{answer_numbers}
 use Rattle.sights.specs.declared.CFound.{CFound}
 use Rattle.sights.specs.declared.CEntry.{CEntry}
@@ -18,9 +19,13 @@ use Rattle.sights.specs.declared.CEntry.{CEntry}
 abbrev pub flag : Bool → ℕ
 flag b = cond b 1 0
 
+-- R16.11: an answer's numbers and the place beside them
+abbrev pub found_numbers : Answer → ℕ → CFound
+found_numbers answer place = record { answer = answer_numbers answer; place = place }
+
 -- R16.11: where a value is: the answer's numbers and the place
-abbrev pub found_numbers : Result Part Refusal → CFound
-found_numbers found = record { answer = answer_numbers (answer_of found); place = place_of found }
+abbrev pub part_numbers : Result Part Refusal → CFound
+part_numbers found = found_numbers (answer_of found) (place_of found)
 
 -- R16.11: no record stands there: the kind, the refusal's number, and where to go on; the rest is 0
 abbrev pub empty_numbers : ℕ → ℕ → Place → CEntry

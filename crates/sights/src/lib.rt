@@ -3,12 +3,12 @@
 #![tactic(auto)]
 
 ghost use Rattle.std.specs.Prelude.{◌≡◌, ◌+◌, ◌≤◌, ◌<◌};
-ghost use Rattle.sights.specs.Sights.{found_numbers, empty_numbers, record_numbers, StandsIn, shown_numbers};
+ghost use Rattle.sights.specs.Sights.{found_numbers, part_numbers, empty_numbers, record_numbers, StandsIn, shown_numbers};
 
 use entries::{Entry, Place, Shown};
 use format::Record;
 use lending::Part;
-use plans::Success;
+use plans::{Answer, Success};
 use refusals::Refusal;
 use replies::CAnswer;
 
@@ -36,19 +36,23 @@ pub struct CEntry {
     pub next: Place,
 }
 
+// R16.11: an answer in numbers, and the place beside it, whatever the two are.
+pub fn found_numbers(answer: Answer, place: usize) -> CFound
+    ensures { result ≡ found_numbers answer place }
+{
+    CFound {
+        answer: replies::answer_numbers(answer),
+        place,
+    }
+}
+
 // R16.11: where a value is, in numbers.
-pub fn found_numbers(found: Result<Part, Refusal>) -> CFound
-    ensures { result ≡ found_numbers found }
+pub fn part_numbers(found: Result<Part, Refusal>) -> CFound
+    ensures { result ≡ part_numbers found }
 {
     match found {
-        Ok(Part { place, len }) => CFound {
-            answer: replies::answer_numbers(Ok(Success::Complete(len))),
-            place,
-        },
-        Err(refusal) => CFound {
-            answer: replies::answer_numbers(Err(refusal)),
-            place: 0,
-        },
+        Ok(Part { place, len }) => found_numbers(Ok(Success::Complete(len)), place),
+        Err(refusal) => found_numbers(Err(refusal), 0),
     }
 }
 

@@ -10,7 +10,7 @@ use Rattle.lending.specs.Lending.{located_of}
 use Rattle.entries.specs.Entries.{shown_at}
 use Rattle.sights.specs.declared.CFound.{CFound}
 use Rattle.sights.specs.declared.CEntry.{CEntry}
-use Rattle.sights.specs.Sights.{found_numbers, shown_numbers}
+use Rattle.sights.specs.Sights.{part_numbers, shown_numbers}
 use Rattle.running.specs.Starts.{get_started, append_started, remove_started, collect_started, initialise_started}
 use Rattle.replies.specs.declared.CAnswer.{CAnswer}
 use Rattle.replies.specs.Answers.{answer_numbers}
@@ -87,7 +87,7 @@ ChecksumAllows bytes r = r ≡ checksum bytes
 
 -- R16.1, R16.2, R16.11: where a key's value lies, in numbers.
 abbrev pub FindValueAllows : List ℕ → ℕ → ℕ → ℕ → CFound → Type 0
-FindValueAllows image s n key r = r ≡ found_numbers (located_of image s n key)
+FindValueAllows image s n key r = r ≡ part_numbers (located_of image s n key)
 
 -- R16.4, R16.5, R16.11: what stands at a place of a region, and where to go on, in numbers.
 abbrev pub RecordAtAllows : List ℕ → ℕ → ℕ → ℕ → ℕ → CEntry → Type 0

@@ -7,7 +7,7 @@ use sights::{CEntry, CFound};
 pub fn stilefray_find_value(image: &[u8], s: usize, n: usize, key: u64) -> CFound
     ensures { FindValueAllows image.now s n key result }
 {
-    sights::found_numbers(lending::find_value(image, s, n, key))
+    sights::part_numbers(lending::find_value(image, s, n, key))
 }
 
 // R16.4, R16.5: what stands at a place of a region, and where to go on.
