@@ -3,6 +3,7 @@ use crate::flash::Chip;
 use crate::print::Got;
 use crate::{flash, old_lookup};
 use report::Hex;
+use std::fmt::InlineText;
 use std::io;
 
 // More bytes than any value of the day has.
@@ -28,26 +29,35 @@ pub fn one(rt: &impl Print, chip: &Chip, key: u64) -> io::Result<()> {
 }
 
 // A row of the table of all keys.
-pub fn row(rt: &(impl Print + Alloc), chip: &Chip, key: u64) -> io::Result<()> {
+pub fn row(rt: &impl Print, chip: &Chip, key: u64) -> io::Result<()> {
     let mut buffer = [0; ROOM];
     let home = probe::get_region(key, flash::N);
-    let old = old_lookup::get_key(&chip.bytes, key).to_string(rt.alloc())?;
+    let old = old_column(chip, key);
     let answer = chip.get(key, &mut buffer);
     let buffer = &buffer;
-    println!(rt; "{key:>4}{home:>6}  {old:<28}  {}", Got { answer, buffer })
+    println!(rt;
+        "{key:>4}{home:>6}  {:<28}  {}",
+        old.as_str(),
+        Got { answer, buffer }
+    )
 }
 
 // A row for a key that was not removed, and whether the store still has the value that was appended last.
-pub fn kept(rt: &(impl Print + Alloc), chip: &Chip, key: u64, appended: &str) -> io::Result<bool> {
+pub fn kept(rt: &impl Print, chip: &Chip, key: u64, appended: &str) -> io::Result<bool> {
     let mut buffer = [0; ROOM];
-    let old = old_lookup::get_key(&chip.bytes, key).to_string(rt.alloc())?;
+    let old = old_column(chip, key);
     let answer = chip.get(key, &mut buffer);
     let buffer = &buffer;
     let got = Got { answer, buffer };
     let kept = got.value() == Some(appended.as_bytes());
     let word = if kept { "equal" } else { "LOST" };
-    println!(rt; "{key:>4}  {old:<28}  {word:<5}  {got}")?;
+    println!(rt; "{key:>4}  {:<28}  {word:<5}  {got}", old.as_str())?;
     Ok(kept)
+}
+
+// The old crate's answer, to be padded as a column: no text of it is longer, and none is allocated.
+fn old_column(chip: &Chip, key: u64) -> InlineText<32> {
+    InlineText::of(old_lookup::get_key(&chip.bytes, key))
 }
 
 // Whether a live record of the key stands in the image.

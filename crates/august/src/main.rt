@@ -14,6 +14,7 @@ mod table;
 
 use flash::Chip;
 use print::Said;
+use report::Unheeded;
 use std::io;
 
 // The main key, and the keys of the white balance of three cameras.
@@ -26,6 +27,7 @@ const CAMERA_2: u64 = 201;
 const CAMERA_3: u64 = 301;
 
 fn main(rt: HostRuntime) -> io::Result<()> {
+    let rt = Unheeded { out: rt };
     let mut chip = flash::new_chip();
     heading(&rt)?;
     morning(&rt, &mut chip)?;
@@ -82,7 +84,7 @@ fn afternoon(rt: &impl Print, chip: &mut Chip) -> io::Result<()> {
     table::show(rt, chip)
 }
 
-fn look_up_all(rt: &(impl Print + Alloc), chip: &Chip) -> io::Result<()> {
+fn look_up_all(rt: &impl Print, chip: &Chip) -> io::Result<()> {
     lookups::one(rt, chip, CAMERA_1)?;
     println!(rt; "\n key  home  tickv 2.0.0                   this store")?;
     for key in [MAIN, CAMERA_1, CAMERA_2, CAMERA_3] {
@@ -109,7 +111,7 @@ fn evening(rt: &impl Print, chip: &mut Chip) -> io::Result<()> {
 }
 
 // Every key that was not removed.
-fn all_kept(rt: &(impl Print + Alloc), chip: &Chip) -> io::Result<bool> {
+fn all_kept(rt: &impl Print, chip: &Chip) -> io::Result<bool> {
     println!(rt; "\n key  tickv 2.0.0                   this store, against what was appended")?;
     let main = lookups::kept(rt, chip, MAIN, "")?;
     let first = lookups::kept(rt, chip, CAMERA_1, corrections::CAMERA_1_AT_THREE)?;

@@ -4,10 +4,11 @@
 #![tactic(auto)]
 
 use plans::Printed;
-use report::{Hex, Image};
+use report::{Hex, Image, Unheeded};
 use std::io;
 
 fn main(rt: HostRuntime) -> io::Result<()> {
+    let rt = Unheeded { out: rt };
     probes(&rt)?;
     append_and_get(&rt)?;
     exact_fit(&rt)?;

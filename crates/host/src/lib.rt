@@ -6,4 +6,4 @@ mod compare;
 mod serving;
 
 pub use compare::changes;
-pub use serving::{Host, Pace};
+pub use serving::{Flash, Host};

@@ -2,15 +2,16 @@
 
 #![tactic(auto)]
 
-use host::{Host, Pace};
+use host::{Flash, Host};
 use plans::Printed;
 use refusals::Refusal;
-use report::Hex;
+use report::{Hex, Unheeded};
 use running::{Op, Reply};
 use std::io;
 use steps::Stepped;
 
 fn main(rt: HostRuntime) -> io::Result<()> {
+    let rt = Unheeded { out: rt };
     refused_starts(&rt)?;
     bad_calls(&rt)
 }
@@ -44,7 +45,7 @@ fn bad_calls(rt: &impl Print) -> io::Result<()> {
     if let Ok(op) = running::start_append(64, 4, 1, 3) {
         bad_appends(rt, op, &mut image)?;
     }
-    host::changes(rt, &[255; 256], &image)?;
+    host::changes(rt, &[255; 256], &image);
     println!(rt; "get 1 into 5 bytes, with bad calls")?;
     if let Ok(op) = running::start_get(64, 4, 1, 5) {
         bad_gets(rt, op, &mut image)?;
@@ -55,30 +56,30 @@ fn bad_calls(rt: &impl Print) -> io::Result<()> {
 // A bad call leaves the operation as it was: it goes on from its second request.
 fn bad_appends(rt: &impl Print, op: Op, image: &mut [u8; 256]) -> io::Result<()> {
     let value = [7, 8, 9];
-    let mut host = Host::new(image, &value, &mut [], Pace::READY);
-    let first = host.step(op, Reply::Begin);
-    let op = host.beat(rt, first, 0)?.op;
+    let mut flash = Flash::new(image, &value, &mut [], Host::READY);
+    let first = flash.step(op, Reply::Begin);
+    let op = flash.beat(rt, first, 0).op;
     let now = steps::step(op, Reply::Done, &mut [0; 63], &value, &mut []);
     let op = said(rt, "region buffer of 63 bytes", now)?;
-    let now = host.step_lent(op, Reply::Done, &[7, 8], &mut []);
+    let now = flash.step_lent(op, Reply::Done, &[7, 8], &mut []);
     let op = said(rt, "value of 2 bytes", now)?;
-    let now = host.step(op, Reply::Begin);
+    let now = flash.step(op, Reply::Begin);
     let op = said(rt, "begin at the second step", now)?;
-    finish(rt, op, &mut host)?;
+    finish(rt, op, &mut flash)?;
     Ok(())
 }
 
 // The same before the first request, after it, and after the end.
 fn bad_gets(rt: &impl Print, op: Op, image: &mut [u8; 256]) -> io::Result<()> {
     let mut buffer = [0; 5];
-    let mut host = Host::new(image, b"", &mut buffer, Pace::READY);
-    let now = host.step(op, Reply::Done);
+    let mut flash = Flash::new(image, b"", &mut buffer, Host::READY);
+    let now = flash.step(op, Reply::Done);
     let op = said(rt, "done at the first step", now)?;
-    let op = host.step(op, Reply::Begin).op;
-    let now = host.step_lent(op, Reply::Done, b"", &mut [0; 6]);
+    let op = flash.step(op, Reply::Begin).op;
+    let now = flash.step_lent(op, Reply::Done, b"", &mut [0; 6]);
     let op = said(rt, "buffer of 6 bytes", now)?;
-    let op = finish(rt, op, &mut host)?;
-    let now = host.step(op, Reply::Done);
+    let op = finish(rt, op, &mut flash)?;
+    let now = flash.step(op, Reply::Done);
     said(rt, "done after the end", now)?;
     println!(rt; "  buffer:{}", Hex(&buffer))
 }
@@ -90,8 +91,8 @@ fn said(rt: &impl Print, what: &str, stepped: Stepped) -> io::Result<Op> {
 }
 
 // A step with "not ready" says the request again, and from there it goes to the end.
-fn finish(rt: &impl Print, op: Op, host: &mut Host<'_>) -> io::Result<Op> {
-    let again = host.step(op, Reply::NotReady);
-    let last = host.drive(rt, again)?;
+fn finish(rt: &impl Print, op: Op, flash: &mut Flash<'_>) -> io::Result<Op> {
+    let again = flash.step(op, Reply::NotReady);
+    let last = flash.drive(rt, again);
     said(rt, "answer", last)
 }

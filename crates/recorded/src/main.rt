@@ -7,48 +7,57 @@ mod chips;
 mod counts;
 mod line;
 
+ghost use Rattle.std.specs.Prelude.{◌≡◌, length};
+
 use chips::Chip;
 use counts::Counts;
 use line::{Call, Numbers};
-use std::io;
-use std::io::Read;
 
 // More lines than the list has, and more bytes.
 const MOST_LINES: usize = 10000;
 
-const MOST_BYTES: u64 = 262144;
+const MOST_BYTES: usize = 262144;
 
 // The most bytes that a chip has, or that a call is lent.
 const ROOM: usize = 65536;
 
-fn main(rt: HostRuntime) -> io::Result<()> {
-    let alloc = rt.alloc();
-    let mut text = Vec::new(alloc);
+// All of it lies in arrays and none is allocated: a list of which memory held only a part would be taken for another one.
+fn main(rt: HostRuntime) {
+    let mut text = zeros::<MOST_BYTES>();
+    let mut flash = zeros::<ROOM>();
+    let mut room = zeros::<ROOM>();
     // What was read before a read fails is the list, as it is where the input ends.
-    let _ = rt.reader().take(MOST_BYTES).read_to_end(&mut text);
-    let mut flash = vec![in alloc; 0; ROOM]?;
-    let mut room = vec![in alloc; 0; ROOM]?;
-    replay(&rt, &text, &mut flash, &mut room)
+    let len = io::read_full(0, &mut text);
+    replay(&rt, &text[..len], &mut flash, &mut room);
 }
 
-// The lines in their order, up to the last, or to the first on which the store does something else than the crate did.
-fn replay(rt: &impl Print, text: &[u8], flash: &mut [u8], room: &mut [u8]) -> io::Result<()> {
+// Room for so many bytes.
+fn zeros<const N: usize>() -> [u8; N]
+    ensures { N ≡ length result }
+{
+    [0; N]
+}
+
+// The lines in their order, up to the last, or to the first on which the store does something else than the crate did. What standard output
+// does not take is passed over.
+fn replay(rt: &impl Print, text: &[u8], flash: &mut [u8], room: &mut [u8]) {
     let mut counts = Counts::default();
     let mut chip = Chip::default();
     for (lines, line) in Numbers(text).take(MOST_LINES).enumerate() {
         if line.call == Call::Last {
-            return println!(rt; "{counts}");
+            let _ = println!(rt; "{counts}");
+            return;
         }
         if line.call == Call::Chip {
             chip = Chip::of(&line);
             chip::erase(flash);
         } else if !chip.agrees(&line, flash, room) {
-            println!(rt; "{counts}")?;
-            return println!(rt;
+            let _ = println!(rt; "{counts}");
+            let _ = println!(rt;
                 "another answer, image or buffer than the crate's, after lines {lines}"
             );
+            return;
         }
         counts.add(&line);
     }
-    Ok(())
 }

@@ -1,11 +1,13 @@
-// What the programs share: bytes in hexadecimal, and an image in memory on which the store's calls are made.
+// What the programs share: an image in memory on which the store's calls are made, bytes in hexadecimal, and where they print.
 
 #![tactic(auto)]
 
 mod image;
+mod unheeded;
 
 pub use image::Image;
 use std::fmt;
+pub use unheeded::Unheeded;
 
 // Bytes in hexadecimal, a blank before each.
 #[derive(Clone, Copy)]

@@ -1,7 +1,7 @@
 // A call one service at a time, held against the same call made in one.
 
 use crate::call::Call;
-use host::{Host, Pace};
+use host::{Flash, Host};
 use report::{Hex, Image};
 use running::{Reply, Request};
 use std::io;
@@ -13,11 +13,11 @@ pub fn get<const LEN: usize>(
     key: u64,
     image: &mut Image<256>,
     mut buffer: [u8; LEN],
-    pace: Pace,
+    host: Host,
 ) -> io::Result<()> {
     let mut twin = buffer;
     println!(rt; "{what}")?;
-    both(rt, Call::Get(key), image, b"", &mut buffer, &mut twin, pace)?;
+    both(rt, Call::Get(key), image, b"", &mut buffer, &mut twin, host)?;
     println!(rt; "  buffer:{}", Hex(&buffer))
 }
 
@@ -28,12 +28,13 @@ pub fn change(
     call: Call,
     image: &mut Image<256>,
     value: &[u8],
-    pace: Pace,
+    host: Host,
 ) -> io::Result<()> {
     let old = image.bytes;
     println!(rt; "{what}")?;
-    both(rt, call, image, value, &mut [], &mut [], pace)?;
-    host::changes(rt, &old, &image.bytes)
+    both(rt, call, image, value, &mut [], &mut [], host)?;
+    host::changes(rt, &old, &image.bytes);
+    Ok(())
 }
 
 // A call whose service of this number fails. In one call there is no such thing.
@@ -49,9 +50,10 @@ pub fn fail(
     run(
         rt,
         call,
-        Host::new(&mut image.bytes, b"", &mut [], Pace::failing(service)),
+        Flash::new(&mut image.bytes, b"", &mut [], Host::failing(service)),
     )?;
-    host::changes(rt, &old, &image.bytes)
+    host::changes(rt, &old, &image.bytes);
+    Ok(())
 }
 
 // A call in both forms, on images and buffers that are the same before.
@@ -62,10 +64,10 @@ fn both(
     value: &[u8],
     buffer: &mut [u8],
     twin: &mut [u8],
-    pace: Pace,
+    host: Host,
 ) -> io::Result<()> {
     let mut other = *image;
-    let stepped = run(rt, call, Host::new(&mut image.bytes, value, buffer, pace))?;
+    let stepped = run(rt, call, Flash::new(&mut image.bytes, value, buffer, host))?;
     let once = call.in_one(&mut other, value, twin);
     let differs = if stepped != Request::Answers(once) {
         "another answer"
@@ -80,11 +82,11 @@ fn both(
 }
 
 // All steps of a call, and its answer.
-fn run(rt: &impl Print, call: Call, mut host: Host<'_>) -> io::Result<Request> {
-    match call.start(host.value.len(), host.buffer.len()) {
+fn run(rt: &impl Print, call: Call, mut flash: Flash<'_>) -> io::Result<Request> {
+    match call.start(flash.value.len(), flash.buffer.len()) {
         Ok(op) => {
-            let first = host.step(op, Reply::Begin);
-            let last = host.drive(rt, first)?;
+            let first = flash.step(op, Reply::Begin);
+            let last = flash.drive(rt, first);
             println!(rt; "  answer: {}", last.request)?;
             Ok(last.request)
         }

@@ -8,11 +8,12 @@ mod forms;
 
 use call::Call;
 use forms::{change, fail, get};
-use host::Pace;
-use report::Image;
+use host::Host;
+use report::{Image, Unheeded};
 use std::io;
 
 fn main(rt: HostRuntime) -> io::Result<()> {
+    let rt = Unheeded { out: rt };
     // One image goes from each of these to the next.
     let mut image = blank();
     small_record(&rt, &mut image)?;
@@ -39,17 +40,17 @@ fn small_record(rt: &impl Print, image: &mut Image<256>) -> io::Result<()> {
         Call::Append(1),
         image,
         &[7, 8, 9],
-        Pace::READY,
+        Host::READY,
     )?;
-    get(rt, "get 1 into 5 bytes", 1, image, [0; 5], Pace::READY)?;
-    get(rt, "get 1 into 2 bytes", 1, image, [0; 2], Pace::SLOW)?;
+    get(rt, "get 1 into 5 bytes", 1, image, [0; 5], Host::READY)?;
+    get(rt, "get 1 into 2 bytes", 1, image, [0; 2], Host::SLOW)?;
     change(
         rt,
         "append 1 again",
         Call::Append(1),
         image,
         &[7],
-        Pace::READY,
+        Host::READY,
     )
 }
 
@@ -61,10 +62,10 @@ fn spilled_record(rt: &impl Print, image: &mut Image<256>) -> io::Result<()> {
         Call::Append(5),
         image,
         &[5; 40],
-        Pace::SLOW,
+        Host::SLOW,
     )?;
-    get(rt, "get 5 into 40 bytes", 5, image, [0; 40], Pace::READY)?;
-    get(rt, "get 2 into 1 byte", 2, image, [0; 1], Pace::READY)
+    get(rt, "get 5 into 40 bytes", 5, image, [0; 40], Host::READY)?;
+    get(rt, "get 2 into 1 byte", 2, image, [0; 1], Host::READY)
 }
 
 // A failed service is not done, and ends the operation.
@@ -89,11 +90,11 @@ fn removals(rt: &impl Print, image: &mut Image<256>) -> io::Result<()> {
         Call::Invalidate(1),
         image,
         b"",
-        Pace::SLOW,
+        Host::SLOW,
     )?;
-    change(rt, "zeroise 5", Call::Zeroise(5), image, b"", Pace::SLOW)?;
-    change(rt, "collect", Call::Collect, image, b"", Pace::SLOW)?;
-    change(rt, "collect again", Call::Collect, image, b"", Pace::READY)
+    change(rt, "zeroise 5", Call::Zeroise(5), image, b"", Host::SLOW)?;
+    change(rt, "collect", Call::Collect, image, b"", Host::SLOW)?;
+    change(rt, "collect again", Call::Collect, image, b"", Host::READY)
 }
 
 fn main_key(rt: &impl Print) -> io::Result<()> {
@@ -105,9 +106,9 @@ fn main_key(rt: &impl Print) -> io::Result<()> {
         call,
         &mut image,
         b"",
-        Pace::SLOW,
+        Host::SLOW,
     )?;
-    change(rt, "initialise 1 again", call, &mut image, b"", Pace::READY)
+    change(rt, "initialise 1 again", call, &mut image, b"", Host::READY)
 }
 
 // Region 2 begins with a version that is not known: collect ends there, and initialise starts anew.
@@ -120,7 +121,7 @@ fn bad_place(rt: &impl Print) -> io::Result<()> {
         Call::Collect,
         &mut image,
         b"",
-        Pace::READY,
+        Host::READY,
     )?;
     change(
         rt,
@@ -128,6 +129,6 @@ fn bad_place(rt: &impl Print) -> io::Result<()> {
         Call::Initialise(1),
         &mut image,
         b"",
-        Pace::READY,
+        Host::READY,
     )
 }
